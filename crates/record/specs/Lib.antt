@@ -1,0 +1,9 @@
+pub mod Layout
+pub mod Limits
+pub mod Setups
+pub mod Steps
+pub mod Reading
+pub mod Exact
+pub mod Faults
+pub mod Checks
+pub mod Sheets
