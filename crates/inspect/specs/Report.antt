@@ -1,6 +1,6 @@
 -- The lines that tell what a record or a sheet says.
 use Prim.Native.Nat.{ℕ, _+_}
-use mathlib.Core.Bool.{Bool, true, false, cond}
+use mathlib.Core.Bool.{Bool, true, false}
 use mathlib.Core.List.{List, [], _∷_, _++_}
 use lib.Chars.{codes}
 use Rattle.std.specs.Written.{decimal}

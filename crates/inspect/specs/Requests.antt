@@ -1,12 +1,11 @@
 -- What a call of the program asks for.
 use Prim.Native.Nat.{ℕ}
-use mathlib.Core.Bool.{Bool, true, false, cond}
+use mathlib.Core.Bool.{cond}
 use mathlib.Core.List.{List, [], _∷_}
 use lib.Chars.{codes}
 use Rattle.std.specs.shelf.Text.{sameBytes}
 use Rattle.std.specs.declared.option.Option.{Option}
 use Rattle.std.specs.declared.option.Option.the-variants.{Some, None}
-use Rattle.record.specs.declared.sheet.Sheet.{Sheet}
 use Rattle.inspect.specs.Numerals.{numeral, then}
 use Rattle.inspect.specs.declared.asking.Request.{Request}
 use Rattle.inspect.specs.declared.asking.Request.the-variants.{Record, Sheet as SheetOf}

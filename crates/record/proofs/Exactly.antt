@@ -2,10 +2,10 @@
 use Prim.Native.Nat.{ℕ, zero, suc, _/_, _%_, _^_, _<_, _≤_}
 use mathlib.Core.Path.{_≡_, refl, sym, ap, subst, _∙_}
 use mathlib.Core.Bool.{Bool, true, false, cond}
-use mathlib.Core.Logic.{_⊎_, inl, inr, _↔_}
+use mathlib.Core.Logic.{_⊎_, inl, inr}
 use mathlib.Core.List.{List, [], _∷_}
 use native.Mathlib.Omega.{arith}
-use lib.Dec.{eqb, ltb}
+use lib.Dec.{ltb}
 use lib.ListN.{length, getD, drop}
 use Rattle.std.proofs.shelf.Tests.{cases-bool, cases-lt, both-ways, ltb-true, ltb-false, lt-ltb, le-ltb, eqb-false}
 use Rattle.std.specs.declared.option.Option.{Option}
@@ -13,15 +13,15 @@ use Rattle.std.specs.declared.option.Option.the-variants.{Some, None}
 use Rattle.std.specs.declared.result.Result.{Result}
 use Rattle.std.specs.declared.result.Result.the-variants.{Ok, Err}
 use Rattle.staircase.specs.Limits.{anyThere}
-use Rattle.record.specs.Layout.{Fields, bitMap, layout, stands, calledFor, fieldsAfter, fieldsIn}
-use Rattle.record.specs.Limits.{Each, Kept, placed, FirstBeyond, firstBeyond}
+use Rattle.record.specs.Layout.{Fields, placed, bitMap, layout, stands, calledFor}
+use Rattle.record.specs.Limits.{Each, Kept, firstBeyond}
 use Rattle.record.specs.Setups.{Content, meaning}
-use Rattle.record.specs.Reading.{unknown, someStaircase, unless, judgement, passing, reading}
+use Rattle.record.specs.Reading.{fieldsAfter, unknown, someStaircase, unless, judgement, reading}
 use Rattle.record.specs.Exact.{Says, bitsOf, Condition, order, First, Exact}
 use Rattle.record.specs.declared.faults.RecordFault.{RecordFault}
 use Rattle.record.specs.declared.faults.RecordFault.the-variants.{Empty, UnknownBits, NoStaircase, Short, Long, Beyond}
 use Rattle.record.proofs.Firsts.{first-said, said-first, each-found, found-each}
-use Rattle.record.proofs.Laid.{Bytes, lengths, back, forth, stands6, stands7, some-stands}
+use Rattle.record.proofs.Laid.{fieldsIn, Bytes, lengths, back, forth, stands6, stands7, some-stands}
 
 -- ────────────────────────────────── the tests of a bit map
 
@@ -123,7 +123,7 @@ not-empty : (b : ℕ) (bs : List ℕ) → (b ∷ bs) ≡ [] → ⊥
 not-empty b bs e = let n = ap length e in omega arith
 
 judged-good :
-    (b : ℕ) (bs : List ℕ) (o : Option ℕ) → firstBeyond (placed (fieldsAfter b bs)) ≡ o →
+    (b : ℕ) (bs : List ℕ) (o : Option ℕ) → firstBeyond 1 (placed (fieldsAfter b bs)) ≡ o →
     unknown b ≡ false → someStaircase b ≡ true → suc (length bs) ≡ calledFor b →
     Bytes (b ∷ bs) →
     Good (b ∷ bs) (unless o (meaning (fieldsAfter b bs)))
@@ -132,13 +132,13 @@ judged-good b bs None e u s n p =
     record {
       fields = fieldsAfter b bs;
       some = sym (some-stands (fieldsAfter b bs)) ∙ ap someStaircase (ap (λ (l : List ℕ). getD l 0 0) laid) ∙ s;
-      limits = each-found _ e;
+      limits = each-found 1 _ e;
       laid = laid;
       means = refl;
     }
 judged-good b bs (Some o) e u s n p =
     record {
-      applies = (fieldsAfter b bs, forth b bs (low b (p .0) u) (p .1) n, first-said _ o e);
+      applies = (fieldsAfter b bs, forth b bs (low b (p .0) u) (p .1) n, first-said 1 _ o e);
       none-before = none-below (b ∷ bs) 5 (omega arith) (λ _. not-empty b bs) (λ _ c. both-ways _ u (not-known _ _ c)) (λ _ c. both-ways _ (stairs-no b c) s) (λ _. omega arith) (λ _. omega arith);
     }
 
@@ -182,7 +182,7 @@ laid-taken f some limits =
     let n = lengths f in
     at-fields (bitMap f) (drop 1 (layout f)) (λ i. cond (stands6 f i) true (stands7 f i)) (some-stands f ∙ some) (le-ltb _ _ (omega arith)) (le-ltb _ _ (omega arith))
     ∙ ap judgement (back f)
-    ∙ ap (λ (o : Option ℕ). unless o (meaning f)) (found-each (placed f) limits)
+    ∙ ap (λ (o : Option ℕ). unless o (meaning f)) (found-each 1 (placed f) limits)
 
 not-unknown : (b : ℕ) → ((stands b 6 ≡ true) ⊎ (stands b 7 ≡ true) → ⊥) → unknown b ≡ false
 not-unknown b h = elim (cases-bool (unknown b)) [ inl u ↦ absurd (h (known-not _ _ u)) | inr u ↦ u ]
@@ -193,8 +193,8 @@ has-stairs b h = elim (cases-bool (someStaircase b)) [ inl s ↦ s | inr s ↦ a
 not-below : (m n : ℕ) → (m < n → ⊥) → ltb m n ≡ false
 not-below m n h = elim (cases-lt m n) [ inl l ↦ absurd (h l) | inr l ↦ le-ltb m n l ]
 
-beyond-found : (bytes : List ℕ) (o : ℕ) → Condition bytes (Beyond o) → firstBeyond (placed (fieldsIn bytes)) ≡ Some o
-beyond-found bytes o (f, laid, first) = ap (λ (l : List ℕ). firstBeyond (placed (fieldsIn l))) (sym laid) ∙ ap (λ (g : Fields). firstBeyond (placed g)) (back f) ∙ said-first (placed f) o first
+beyond-found : (bytes : List ℕ) (o : ℕ) → Condition bytes (Beyond o) → firstBeyond 1 (placed (fieldsIn bytes)) ≡ Some o
+beyond-found bytes o (f, laid, first) = ap (λ (l : List ℕ). firstBeyond 1 (placed (fieldsIn l))) (sym laid) ∙ ap (λ (g : Fields). firstBeyond 1 (placed g)) (back f) ∙ said-first 1 (placed f) o first
 
 applies-first : (bytes : List ℕ) (e : RecordFault) → First bytes e → reading bytes ≡ Err e
 applies-first [] Empty h = refl

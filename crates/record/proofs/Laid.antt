@@ -1,27 +1,56 @@
 -- Layouts are read back, and what is read lays out to the bytes again.
 use Prim.Native.Nat.{ℕ, zero, suc, _+_, _*_, _/_, _%_, _^_, _<_, _≤_}
-use mathlib.Core.Path.{_≡_, refl, sym, ap, subst, _∙_}
+use mathlib.Core.Path.{_≡_, refl, sym, ap, _∙_}
 use mathlib.Core.Bool.{Bool, true, false, cond}
-use mathlib.Core.List.{List, [], _∷_, _++_, append-nil}
+use mathlib.Core.List.{List, [], _∷_, _++_, append-nil, append-assoc}
 use native.Mathlib.Omega.{arith}
 use lib.Dec.{eqb}
-use lib.ListN.{length, getD, take, drop, length-append, length-drop}
+use lib.ListN.{length, getD, drop, length-append, length-drop}
 use Rattle.std.specs.Options.{isSome}
 use Rattle.std.specs.declared.option.Option.{Option}
 use Rattle.std.specs.declared.option.Option.the-variants.{Some, None}
-use Rattle.staircase.specs.Limits.{anyThere}
+use Rattle.staircase.specs.Limits.{anyThere, mostCapacity, mostBreakEven}
 use Rattle.staircase.specs.Of.{Stair}
-use Rattle.record.specs.Layout.{Fields, bit, bitMap, twoBytes, stairBytes, figureBytes, layout, stands, wide, width, tableWidth, calledFor, numberAt, stairIn, figureIn, past1, past2, past3, past4, past5, fieldsAfter, fieldsIn}
-use Rattle.record.specs.Reading.{someStaircase}
+use Rattle.record.specs.Layout.{Fields, Placed, together, stairPlaced, figurePlaced, placed, bit, bitMap, layout, stands, wide, calledFor}
+use Rattle.record.specs.Reading.{stairIn, figureIn, past1, past2, past3, past4, past5, fieldsAfter, someStaircase}
 use Rattle.record.specs.Setups.{meaning}
 use Rattle.record.specs.Exact.{Lengths}
+
+-- ────────────────────────────────── the bytes of one field
+
+abbrev twoBytes : ℕ → List ℕ
+twoBytes n = n / 256 ∷ n % 256 ∷ []
+
+abbrev stairBytes : Option Stair → List ℕ
+stairBytes None = []
+stairBytes (Some s) = s .burst ∷ twoBytes (s .step)
+
+abbrev figureBytes : Option ℕ → List ℕ
+figureBytes None = []
+figureBytes (Some n) = twoBytes n
+
+stair-together : (v : Option Stair) → together (stairPlaced v) ≡ stairBytes v
+stair-together None = refl
+stair-together (Some s) = refl
+
+figure-together : (most : ℕ) (v : Option ℕ) → together (figurePlaced most v) ≡ figureBytes v
+figure-together most None = refl
+figure-together most (Some n) = refl
+
+pub together-append : (ps qs : List Placed) → together (ps ++ qs) ≡ together ps ++ together qs
+together-append [] qs = refl
+together-append (p ∷ ps) qs = ap (λ (l : List ℕ). p .bytes ++ l) (together-append ps qs) ∙ sym (append-assoc (p .bytes) (together ps) (together qs))
+
+-- the fields of a record
+abbrev pub fieldsIn : List ℕ → Fields
+fieldsIn bytes = fieldsAfter (getD bytes 0 0) (drop 1 bytes)
 
 -- each is a byte
 abbrev pub Bytes : List ℕ → Type 0
 Bytes [] = Unit {0}
 Bytes (b ∷ bs) = (b < 256) × Bytes bs
 
--- ────────────────────────────────── one field
+-- ────────────────────────────────── one field and back
 
 two-back : (n : ℕ) → n / 256 * 256 + n % 256 ≡ n
 two-back n = omega arith
@@ -134,6 +163,20 @@ some-of s₀ s₁ s₂ s₃ = cond s₀ true (cond s₁ true (cond s₂ true s�
 abbrev body : Fields → List ℕ
 body f = stairBytes (f .staircase0) ++ (stairBytes (f .staircase1) ++ (stairBytes (f .staircase2) ++ (stairBytes (f .staircase3) ++ (figureBytes (f .capacity) ++ figureBytes (f .break-even)))))
 
+six : (a b c d e g : List Placed) → together (a ++ (b ++ (c ++ (d ++ (e ++ g))))) ≡ together a ++ (together b ++ (together c ++ (together d ++ (together e ++ together g))))
+six a b c d e g = simp together-append
+
+body-laid : (f : Fields) → together (placed f) ≡ body f
+body-laid f =
+    let a = stair-together (f .staircase0) in
+    let b = stair-together (f .staircase1) in
+    let c = stair-together (f .staircase2) in
+    let d = stair-together (f .staircase3) in
+    let e = figure-together mostCapacity (f .capacity) in
+    let g = figure-together mostBreakEven (f .break-even) in
+    six (stairPlaced (f .staircase0)) (stairPlaced (f .staircase1)) (stairPlaced (f .staircase2)) (stairPlaced (f .staircase3)) (figurePlaced mostCapacity (f .capacity)) (figurePlaced mostBreakEven (f .break-even))
+    ∙ (λ i. a i ++ (b i ++ (c i ++ (d i ++ (e i ++ g i)))))
+
 some-there : (a b c d : Option Stair) → some-of (isSome a) (isSome b) (isSome c) (isSome d) ≡ anyThere (a ∷ b ∷ c ∷ d ∷ [])
 some-there (Some x) b c d = refl
 some-there None (Some x) c d = refl
@@ -196,11 +239,13 @@ module _ (f : Fields) where
   long =
       let widths : calledFor (bitMap f) ≡ widths-of (isSome (f .staircase0)) (isSome (f .staircase1)) (isSome (f .staircase2)) (isSome (f .staircase3)) (isSome (f .capacity)) (isSome (f .break-even)) =
       λ i. widths-of (stands0 i) (stands1 i) (stands2 i) (stands3 i) (stands4 i) (stands5 i) in
-      simp length-append (omega (arith, stair-long (f .staircase0), stair-long (f .staircase1), stair-long (f .staircase2), stair-long (f .staircase3), figure-long (f .capacity), figure-long (f .break-even)))
+      ap (λ (l : List ℕ). suc (length l)) (body-laid f)
+      ∙ simp length-append (omega (arith, stair-long (f .staircase0), stair-long (f .staircase1), stair-long (f .staircase2), stair-long (f .staircase3), figure-long (f .capacity), figure-long (f .break-even)))
 
   pub back : fieldsIn (layout f) ≡ f
   back =
-      (λ i. fields-by (stands0 i) (stands1 i) (stands2 i) (stands3 i) (stands4 i) (stands5 i) (body f))
+      ap (fieldsAfter (bitMap f)) (body-laid f)
+      ∙ (λ i. fields-by (stands0 i) (stands1 i) (stands2 i) (stands3 i) (stands4 i) (stands5 i) (body f))
       ∙ fields-back (f .staircase0) (f .staircase1) (f .staircase2) (f .staircase3) (f .capacity) (f .break-even)
 
 pub lengths : Lengths
@@ -273,4 +318,5 @@ body-forth s₀ s₁ s₂ s₃ s₄ s₅ r₀ p₀ e =
 
 pub forth : (bits : ℕ) (bytes : List ℕ) → bits < 64 → Bytes bytes → suc (length bytes) ≡ calledFor bits → layout (fieldsAfter bits bytes) ≡ bits ∷ bytes
 forth bits bytes h p e =
-    λ i. bits-back bits bytes h i ∷ body-forth (stands bits 0) (stands bits 1) (stands bits 2) (stands bits 3) (stands bits 4) (stands bits 5) bytes p e i
+    ap (λ (l : List ℕ). bitMap (fieldsAfter bits bytes) ∷ l) (body-laid (fieldsAfter bits bytes))
+    ∙ λ i. bits-back bits bytes h i ∷ body-forth (stands bits 0) (stands bits 1) (stands bits 2) (stands bits 3) (stands bits 4) (stands bits 5) bytes p e i

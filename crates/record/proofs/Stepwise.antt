@@ -1,33 +1,30 @@
 -- Reading field by field, each against its limits, is judging all the fields of the record.
 use Prim.Native.Nat.{ℕ, suc, _+_, _≤_}
-use mathlib.Core.Path.{_≡_, refl, sym, ap, subst, _∙_}
+use mathlib.Core.Path.{_≡_, refl, sym, ap, _∙_}
 use mathlib.Core.Bool.{Bool, true, false, cond}
-use mathlib.Core.Logic.{_⊎_, inl, inr}
+use mathlib.Core.Logic.{inl, inr}
 use mathlib.Core.List.{List, [], _∷_, _++_}
 use native.Mathlib.Omega.{arith}
 use lib.ListN.{length, drop, length-drop}
 use Rattle.std.proofs.shelf.Tests.{cases-bool}
 use Rattle.std.proofs.shelf.Lists.{drop-drop}
-use Rattle.std.specs.Options.{isSome, valueOr}
+use Rattle.std.specs.Options.{valueOr}
 use Rattle.std.specs.declared.option.Option.{Option}
 use Rattle.std.specs.declared.option.Option.the-variants.{Some, None}
 use Rattle.std.specs.declared.result.Result.{Result}
-use Rattle.std.specs.declared.result.Result.the-variants.{Ok, Err}
 use Rattle.staircase.specs.Limits.{anyThere, within, mostBurst, mostStep, mostCapacity, mostBreakEven}
-use Rattle.staircase.specs.Of.{Stair}
-use Rattle.record.specs.Layout.{Fields, stairBytes, figureBytes, stands, wide, width, tableWidth, calledFor, numberAt, stairIn, figureIn, past1, past2, past3, past4, past5, fieldsAfter}
-use Rattle.record.specs.Limits.{Placed, stairPlaced, figurePlaced, placed, firstBeyond, offset1, offset2, offset3, offset4, offset5}
-use Rattle.record.specs.Setups.{Content, meaning, defaultCapacity, defaultBreakEven}
+use Rattle.record.specs.Layout.{Fields, Placed, together, stairPlaced, figurePlaced, placed, stands, wide, width, tableWidth, calledFor}
+use Rattle.record.specs.Limits.{firstBeyond}
+use Rattle.record.specs.Setups.{meaning, defaultCapacity, defaultBreakEven}
 use Rattle.record.specs.Steps.{Cursor, past, then, stairRead, fieldRead, figureOr, tabledRead, tableRead, setupRead}
-use Rattle.record.specs.Reading.{someStaircase, unless, judgement}
+use Rattle.record.specs.Reading.{numberAt, stairIn, figureIn, past1, past2, past3, past4, past5, fieldsAfter, someStaircase, unless, judgement}
 use Rattle.record.specs.declared.faults.RecordFault.{RecordFault}
-use Rattle.record.specs.declared.faults.RecordFault.the-variants.{NoStaircase}
 use Rattle.record.proofs.Firsts.{orElse, firstBeyond-append}
-use Rattle.record.proofs.Laid.{stair-some, figure-some, stair-long, figure-long}
+use Rattle.record.proofs.Laid.{figure-some}
 
 -- ────────────────────────────────── one field
 
-stair-judged : (s : Bool) (bs : List ℕ) (o : ℕ) → wide s 3 ≤ length bs → stairRead s (record { rest = bs; offset = o }) ≡ unless (firstBeyond (stairPlaced o (stairIn s bs))) (stairIn s bs)
+stair-judged : (s : Bool) (bs : List ℕ) (o : ℕ) → wide s 3 ≤ length bs → stairRead s (record { rest = bs; offset = o }) ≡ unless (firstBeyond o (stairPlaced (stairIn s bs))) (stairIn s bs)
 stair-judged false bs o h = refl
 stair-judged true [] o h = absurd (omega arith)
 stair-judged true (x ∷ []) o h = absurd (omega arith)
@@ -38,7 +35,7 @@ stair-judged true (x ∷ y ∷ z ∷ bs) o h =
       | inr b ↦ rw b refl
     ]
 
-field-judged : (most : ℕ) (s : Bool) (bs : List ℕ) (o : ℕ) → wide s 2 ≤ length bs → fieldRead most s (record { rest = bs; offset = o }) ≡ unless (firstBeyond (figurePlaced most o (figureIn s bs))) (figureIn s bs)
+field-judged : (most : ℕ) (s : Bool) (bs : List ℕ) (o : ℕ) → wide s 2 ≤ length bs → fieldRead most s (record { rest = bs; offset = o }) ≡ unless (firstBeyond o (figurePlaced most (figureIn s bs))) (figureIn s bs)
 field-judged most false bs o h = refl
 field-judged most true [] o h = absurd (omega arith)
 field-judged most true (x ∷ []) o h = absurd (omega arith)
@@ -69,23 +66,28 @@ some-in false false true s₃ r₀ r₁ r₂ r₃ e = refl
 some-in false false false true r₀ r₁ r₂ r₃ e = refl
 some-in false false false false r₀ r₁ r₂ r₃ e = e
 
-stair-width : (s : Bool) (bs : List ℕ) → length (stairBytes (stairIn s bs)) ≡ wide s 3
+abbrev span : List Placed → ℕ
+span ps = length (together ps)
+
+stair-width : (s : Bool) (bs : List ℕ) → span (stairPlaced (stairIn s bs)) ≡ wide s 3
 stair-width true bs = refl
 stair-width false bs = refl
 
-figure-width : (s : Bool) (bs : List ℕ) → length (figureBytes (figureIn s bs)) ≡ wide s 2
-figure-width true bs = refl
-figure-width false bs = refl
+figure-width : (most : ℕ) (s : Bool) (bs : List ℕ) → span (figurePlaced most (figureIn s bs)) ≡ wide s 2
+figure-width most true bs = refl
+figure-width most false bs = refl
 
 figure-or : (default most : ℕ) (s : Bool) (c : Cursor) → wide s 2 ≤ length (c .rest) →
-    figureOr default most s c ≡ unless (orElse (firstBeyond (figurePlaced most (c .offset) (figureIn s (c .rest)))) None) (valueOr (figureIn s (c .rest)) default)
+    figureOr default most s c ≡ unless (orElse (firstBeyond (c .offset) (figurePlaced most (figureIn s (c .rest)))) None) (valueOr (figureIn s (c .rest)) default)
 figure-or default most s c h = goes-on _ _ _ _ None _ (field-judged most s (c .rest) (c .offset) h) refl
 
--- the offsets of the fields, by the widths of those before them
-five :
-    (a b c d e g : List Placed) →
-    firstBeyond (a ++ (b ++ (c ++ (d ++ (e ++ g))))) ≡ orElse (firstBeyond a) (orElse (firstBeyond b) (orElse (firstBeyond c) (orElse (firstBeyond d) (orElse (firstBeyond e) (firstBeyond g)))))
-five a b c d e g = simp firstBeyond-append
+-- the first of six, each behind those before it
+six :
+    (o : ℕ) (a b c d e g : List Placed) →
+    firstBeyond o (a ++ (b ++ (c ++ (d ++ (e ++ g)))))
+    ≡ orElse (firstBeyond o a) (orElse (firstBeyond (o + span a) b) (orElse (firstBeyond (o + span a + span b) c) (orElse (firstBeyond (o + span a + span b + span c) d)
+    (orElse (firstBeyond (o + span a + span b + span c + span d) e) (firstBeyond (o + span a + span b + span c + span d + span e) g)))))
+six o a b c d e g = simp firstBeyond-append
 
 module _ (bits : ℕ) (r₀ : List ℕ) (some : someStaircase bits ≡ true) (size : suc (length r₀) ≡ calledFor bits) where
   abbrev o₁ : ℕ
@@ -124,22 +126,22 @@ module _ (bits : ℕ) (r₀ : List ℕ) (some : someStaircase bits ≡ true) (si
       record { at₀ = omega arith; at₁ = omega arith; at₂ = omega arith; at₃ = omega arith; at₄ = omega arith; at₅ = omega arith }
 
   abbrev first₀ : Option ℕ
-  first₀ = firstBeyond (stairPlaced 1 (f .staircase0))
+  first₀ = firstBeyond 1 (stairPlaced (f .staircase0))
 
   abbrev first₁ : Option ℕ
-  first₁ = firstBeyond (stairPlaced o₁ (f .staircase1))
+  first₁ = firstBeyond o₁ (stairPlaced (f .staircase1))
 
   abbrev first₂ : Option ℕ
-  first₂ = firstBeyond (stairPlaced o₂ (f .staircase2))
+  first₂ = firstBeyond o₂ (stairPlaced (f .staircase2))
 
   abbrev first₃ : Option ℕ
-  first₃ = firstBeyond (stairPlaced o₃ (f .staircase3))
+  first₃ = firstBeyond o₃ (stairPlaced (f .staircase3))
 
   abbrev first₄ : Option ℕ
-  first₄ = firstBeyond (figurePlaced mostCapacity o₄ (f .capacity))
+  first₄ = firstBeyond o₄ (figurePlaced mostCapacity (f .capacity))
 
   abbrev first₅ : Option ℕ
-  first₅ = firstBeyond (figurePlaced mostBreakEven o₅ (f .break-even))
+  first₅ = firstBeyond o₅ (figurePlaced mostBreakEven (f .break-even))
 
   abbrev start : Cursor
   start = record { rest = r₀; offset = 1 }
@@ -159,17 +161,21 @@ module _ (bits : ℕ) (r₀ : List ℕ) (some : someStaircase bits ≡ true) (si
       let o : 1 + tableWidth bits ≡ o₄ = omega arith in
       λ i. record { rest = sym d i; offset = o i }
 
-  firsts : firstBeyond (placed f) ≡ orElse first₀ (orElse first₁ (orElse first₂ (orElse first₃ (orElse first₄ first₅))))
+  firsts : firstBeyond 1 (placed f) ≡ orElse first₀ (orElse first₁ (orElse first₂ (orElse first₃ (orElse first₄ first₅))))
   firsts =
-      let q₁ : offset1 f ≡ o₁ = omega (arith, stair-width (stands bits 0) r₀) in
-      let q₂ : offset2 f ≡ o₂ = omega (arith, stair-width (stands bits 1) (past1 bits r₀)) in
-      let q₃ : offset3 f ≡ o₃ = omega (arith, stair-width (stands bits 2) (past2 bits r₀)) in
-      let q₄ : offset4 f ≡ o₄ = omega (arith, stair-width (stands bits 3) (past3 bits r₀)) in
-      let q₅ : offset5 f ≡ o₅ = omega (arith, figure-width (stands bits 4) (past4 bits r₀)) in
-      five (stairPlaced 1 (f .staircase0)) (stairPlaced (offset1 f) (f .staircase1)) (stairPlaced (offset2 f) (f .staircase2)) (stairPlaced (offset3 f) (f .staircase3))
-      (figurePlaced mostCapacity (offset4 f) (f .capacity)) (figurePlaced mostBreakEven (offset5 f) (f .break-even))
-      ∙ (λ i. orElse first₀ (orElse (firstBeyond (stairPlaced (q₁ i) (f .staircase1))) (orElse (firstBeyond (stairPlaced (q₂ i) (f .staircase2))) (orElse (firstBeyond (stairPlaced (q₃ i) (f .staircase3)))
-      (orElse (firstBeyond (figurePlaced mostCapacity (q₄ i) (f .capacity))) (firstBeyond (figurePlaced mostBreakEven (q₅ i) (f .break-even))))))))
+      let a = stairPlaced (f .staircase0) in
+      let b = stairPlaced (f .staircase1) in
+      let c = stairPlaced (f .staircase2) in
+      let d = stairPlaced (f .staircase3) in
+      let e = figurePlaced mostCapacity (f .capacity) in
+      let g = figurePlaced mostBreakEven (f .break-even) in
+      let q₁ : 1 + span a ≡ o₁ = omega (arith, stair-width (stands bits 0) r₀) in
+      let q₂ : 1 + span a + span b ≡ o₂ = omega (arith, stair-width (stands bits 1) (past1 bits r₀)) in
+      let q₃ : 1 + span a + span b + span c ≡ o₃ = omega (arith, stair-width (stands bits 2) (past2 bits r₀)) in
+      let q₄ : 1 + span a + span b + span c + span d ≡ o₄ = omega (arith, stair-width (stands bits 3) (past3 bits r₀)) in
+      let q₅ : 1 + span a + span b + span c + span d + span e ≡ o₅ = omega (arith, figure-width mostCapacity (stands bits 4) (past4 bits r₀)) in
+      six 1 a b c d e g
+      ∙ (λ i. orElse first₀ (orElse (firstBeyond (q₁ i) b) (orElse (firstBeyond (q₂ i) c) (orElse (firstBeyond (q₃ i) d) (orElse (firstBeyond (q₄ i) e) (firstBeyond (q₅ i) g))))))
 
   stated : record { staircases = meaning f .staircases; capacity = meaning f .capacity; break-even = meaning f .break-even; capacity-stated = stands bits 4; break-even-stated = stands bits 5 } ≡ meaning f
   stated =

@@ -4,7 +4,7 @@ use mathlib.Core.Path.{_≡_, refl}
 use mathlib.Core.List.{List, [], _∷_}
 use native.Mathlib.Omega.{arith}
 use lib.ListN.{length, getD}
-use Rattle.std.specs.declared.result.Result.the-variants.{Ok, Err}
+use Rattle.std.specs.declared.result.Result.the-variants.{Ok}
 use Rattle.record.specs.Steps.{firstByte, firstPair}
 
 pub byte-there : (xs : List ℕ) (o : ℕ) → 1 ≤ length xs → firstByte xs o ≡ Ok (getD xs 0 0)

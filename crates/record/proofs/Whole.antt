@@ -1,8 +1,8 @@
 -- The steps of reading, put together.
 use Prim.Native.Nat.{ℕ, suc, _-_, _<_, _≤_}
 use mathlib.Core.Path.{_≡_, refl, sym, ap, subst, _∙_}
-use mathlib.Core.Bool.{Bool, true, false, cond}
-use mathlib.Core.Logic.{_⊎_, inl, inr}
+use mathlib.Core.Bool.{true}
+use mathlib.Core.Logic.{inl, inr}
 use mathlib.Core.List.{List, [], _∷_}
 use native.Mathlib.Omega.{arith}
 use lib.Dec.{ltb}
@@ -13,15 +13,14 @@ use Rattle.std.proofs.shelf.Lists.{take-rest}
 use Rattle.std.proofs.shelf.Tests.{cases-bool, ltb-false}
 use Rattle.std.specs.declared.result.Result.{Result}
 use Rattle.std.specs.declared.result.Result.the-variants.{Ok, Err}
-use Rattle.record.specs.Layout.{calledFor, fieldsIn}
-use Rattle.record.specs.Setups.{Content, said}
+use Rattle.record.specs.Layout.{calledFor}
+use Rattle.record.specs.Setups.{Content}
 use Rattle.record.specs.Steps.{Cursor, setupRead}
 use Rattle.record.specs.Reading.{unknown, someStaircase, bitsChecked, judgement, passing, reading}
 use Rattle.record.specs.Exact.{Exact}
 use Rattle.record.specs.declared.faults.RecordFault.{RecordFault}
 use Rattle.record.specs.declared.faults.RecordFault.the-variants.{Empty, UnknownBits, NoStaircase, Short, Long}
-use Rattle.record.specs.declared.setup.Setup.{Setup}
-use Rattle.record.proofs.Laid.{Bytes}
+use Rattle.record.proofs.Laid.{fieldsIn, Bytes}
 use Rattle.record.proofs.Stepwise.{setup-judged}
 use Rattle.record.proofs.Exactly.{exact}
 

@@ -8,8 +8,8 @@ use lib.ListN.{length, getD}
 use Rattle.std.specs.declared.result.Result.{Result}
 use Rattle.std.specs.declared.result.Result.the-variants.{Ok, Err}
 use Rattle.staircase.specs.Limits.{anyThere}
-use Rattle.record.specs.Layout.{Fields, bitMap, layout, stands, calledFor}
-use Rattle.record.specs.Limits.{Each, Kept, placed, FirstBeyond}
+use Rattle.record.specs.Layout.{Fields, placed, bitMap, layout, stands, calledFor}
+use Rattle.record.specs.Limits.{Each, Kept, FirstBeyond}
 use Rattle.record.specs.Setups.{Content, meaning}
 use Rattle.record.specs.declared.faults.RecordFault.{RecordFault}
 use Rattle.record.specs.declared.faults.RecordFault.the-variants.{Empty, UnknownBits, NoStaircase, Short, Long, Beyond}
@@ -33,7 +33,7 @@ Condition bytes UnknownBits = (stands (bitsOf bytes) 6 ≡ true) ⊎ (stands (bi
 Condition bytes NoStaircase = (k : ℕ) → k < 4 → stands (bitsOf bytes) k ≡ false
 Condition bytes (Short n) = (length bytes < calledFor (bitsOf bytes)) × (n ≡ length bytes)
 Condition bytes (Long n) = (calledFor (bitsOf bytes) < length bytes) × (n ≡ calledFor (bitsOf bytes))
-Condition bytes (Beyond o) = (f : Fields) × (layout f ≡ bytes) × FirstBeyond (placed f) o
+Condition bytes (Beyond o) = (f : Fields) × (layout f ≡ bytes) × FirstBeyond 1 (placed f) o
 
 -- the order in which they are told
 abbrev pub order : RecordFault → ℕ

@@ -1,5 +1,4 @@
 -- What a refused record or sheet is told: the layer, the number and the place of each refusal.
-use Prim.Native.Nat.{ℕ}
 use Rattle.fault.specs.declared.Fault.{Fault}
 use Rattle.fault.specs.declared.Layer.the-variants.{Record, Sheet}
 use Rattle.record.specs.declared.faults.RecordFault.{RecordFault}

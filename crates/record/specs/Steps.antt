@@ -14,7 +14,7 @@ use Rattle.staircase.specs.Of.{Stair, stairOf, stairsOf, valueOf}
 use Rattle.staircase.specs.declared.figures.Limited.{Limited}
 use Rattle.staircase.specs.declared.table.Staircase.{Staircase}
 use Rattle.staircase.specs.declared.table.Table.{Table}
-use Rattle.record.specs.Layout.{stands, wide, width, tableWidth}
+use Rattle.record.specs.Layout.{stands, width, tableWidth}
 use Rattle.record.specs.Setups.{Content, defaultCapacity, defaultBreakEven}
 use Rattle.record.specs.declared.faults.RecordFault.{RecordFault}
 use Rattle.record.specs.declared.faults.RecordFault.the-variants.{NoStaircase, Short, Beyond}
