@@ -1,3 +1,5 @@
+#![tactic(auto)]
+
 ghost use Rattle.std.specs.Prelude.{◌≡◌, Some};
 ghost use Rattle.fault.specs.Text.{letter, text};
 ghost use Rattle.fault.specs.Packed.{packed, Apart};

@@ -1,4 +1,6 @@
 // Says what the table record in the file table.bin holds, or what a sonde sheet given as arguments says.
+#![tactic(auto)]
+
 ghost use Rattle.std.specs.Prelude.{◌≡◌};
 ghost use Rattle.std.specs.Result.{result_map_both};
 ghost use Rattle.record.specs.Faults.{record_fault, sheet_fault};

@@ -3,6 +3,8 @@
 //   ticks COUNT
 //   sample            answered by 'accepted' or by 'refused' and the number of a staircase
 //   bound HORIZON     answered by 'bound' and a count
+#![tactic(auto)]
+
 mod calls;
 mod lines;
 
