@@ -15,9 +15,8 @@ fn checked(bytes: &[u8]) -> u32
     }
 }
 
-// The check of a record for callers in C: 0 if it is taken, and else the refusal's number times 65,536 and its place.
-#[unsafe(no_mangle)]
-pub extern "C" fn napkinridge_record_check(record: &[u8]) -> u32
+// The check of a record that callers in C get: 0 if it is taken, and else the refusal's number times 65,536 and its place.
+pub fn napkinridge_record_check(record: &[u8]) -> u32
     ensures value { result ≡ verdict (reading «record».now) }
     ensures tells { Verdict «record».now result }
 {

@@ -6,21 +6,21 @@ use Rattle.record.proofs.Laid.{lengths}
 use Rattle.record.proofs.Whole.{all_bytes, at_empty, at_refused, at_setup, exact_said}
 use Rattle.record.proofs.reading.split.Goals as goal
 
-pub returns-in-default : goal.returns-in-default
-returns-in-default c =
+pub returns-in_default : goal.returns-in_default
+returns-in_default c =
     let bytes = c.args.bytes.now in
     let value = at_empty bytes (search rules) in
-    record { value = value; exact = exact_said bytes _ value (all_bytes bytes c.type-inv.bytes); lengths = lengths }
+    record { value = value; exact = exact_said bytes _ value (all_bytes bytes c.type_inv.bytes); lengths = lengths }
 
-pub returns-in-err-check : goal.returns-in-err-check
-returns-in-err-check c =
+pub returns-in_err-check : goal.returns-in_err-check
+returns-in_err-check c =
     let bytes = c.args.bytes.now in
-    let p = err_from_is_err_and c.from-residual.result c.from-residual.ensures.1 in
-    let value : said c.from-residual.result ≡ reading bytes = rw (p.1, p.2) (at_refused bytes _ (search rules) c.in-err-check.ensures) in
-    record { value = value; exact = exact_said bytes _ value (all_bytes bytes c.type-inv.bytes); lengths = lengths }
+    let p = err_from_is_err_and c.from_residual.result c.from_residual.ensures.1 in
+    let value : said c.from_residual.result ≡ reading bytes = rw (p.1, p.2) (at_refused bytes _ (search rules) c.in_err-check.ensures) in
+    record { value = value; exact = exact_said bytes _ value (all_bytes bytes c.type_inv.bytes); lengths = lengths }
 
 pub returns : goal.returns
 returns c =
     let bytes = c.args.bytes.now in
-    let value = c.setup.ensures ∙ at_setup bytes _ (search rules) c.in-ok-check.ensures c.after-bit-map.ensures in
-    record { value = value; exact = exact_said bytes _ value (all_bytes bytes c.type-inv.bytes); lengths = lengths }
+    let value = c.setup.ensures ∙ at_setup bytes _ (search rules) c.in_ok-check.ensures c.after_bit_map.ensures in
+    record { value = value; exact = exact_said bytes _ value (all_bytes bytes c.type_inv.bytes); lengths = lengths }

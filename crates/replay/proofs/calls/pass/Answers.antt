@@ -6,4 +6,4 @@ use Rattle.replay.proofs.calls.pass.Goals as goal
 pub loop-done-preserved : goal.loop-done-preserved
 loop-done-preserved c =
     c.tick.ensures ∙ ap all_elapsed c.loop-done.invariant
-    ∙ sym (ap (λ n. elapsed_by n (counters_of c.args.counters.now)) (add-one c.loop-done.-done))
+    ∙ sym (ap (λ n. elapsed_by n (counters_of c.args.counters.now)) (add-one c.loop-done._done))

@@ -4,4 +4,4 @@ use Rattle.replay.specs.Replayed.{elapsed_by}
 use Rattle.replay.proofs.calls.pass.Given as goal
 
 abbrev pub invariant-loop-done : goal.invariant-loop-done
-invariant-loop-done l = counters_of l.counters ≡ elapsed_by l.-done (counters_of l.initial.counters)
+invariant-loop-done l = counters_of l.counters ≡ elapsed_by l._done (counters_of l.initial.counters)

@@ -12,4 +12,4 @@ unreachable-requires c =
     let one = any_there_lem counters c.requires.some in
     let bounded = to_map (λ (x : Counter). bound x c.args.horizon) counters one.0 one.1 one.2 in
     let least = least_there (map (option_map (λ (x : Counter). bound x c.args.horizon)) counters) one.0 (bound one.1 c.args.horizon) bounded in
-    nothing_is_some least.0 (c.in-default.ensures ∙ least.1)
+    nothing_is_some least.0 (c.in_default.ensures ∙ least.1)

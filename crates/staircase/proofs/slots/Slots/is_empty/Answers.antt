@@ -4,7 +4,7 @@ use Rattle.staircase.proofs.Scanning.{in_use_at}
 use Rattle.staircase.proofs.slots.Slots.is_empty.Goals as goal
 
 pub returns-then-self-place : goal.returns-then-self-place
-returns-then-self-place c = c.is-empty.ensures ∙ sym (ap empty_there (in_use_at c.args.self.now c.args.place true c.requires.0 c.requires.1 c.if-self-place.true))
+returns-then-self-place c = c.is_empty.ensures ∙ sym (ap empty_there (in_use_at c.args.self.now c.args.place true c.requires.0 c.requires.1 c.if-self-place.true))
 
 pub returns-else-self-place : goal.returns-else-self-place
 returns-else-self-place c =

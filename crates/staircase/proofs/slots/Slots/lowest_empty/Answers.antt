@@ -6,15 +6,15 @@ use Rattle.staircase.proofs.slots.Slots.lowest_empty.Goals as goal
 pub loop-number-init : goal.loop-number-init
 loop-number-init c = behind_start (in_use c.args.self.now)
 
-pub returns-then-is-empty : goal.returns-then-is-empty
-returns-then-is-empty c =
+pub returns-then-is_empty : goal.returns-then-is_empty
+returns-then-is_empty c =
     let slots = c.args.self.now in
-    behind_here (in_use slots) c.loop-number.number (omega (arith, in_use_four slots c.requires)) (sym c.if-is-empty.ensures) c.loop-number.invariant
+    behind_here (in_use slots) c.loop-number.number (omega (arith, in_use_four slots c.requires)) (sym c.if-is_empty.ensures) c.loop-number.invariant
 
 pub loop-number-preserved : goal.loop-number-preserved
 loop-number-preserved c =
     let slots = c.args.self.now in
-    behind_more (in_use slots) c.loop-number.number (omega (arith, in_use_four slots c.requires)) (sym c.if-is-empty.ensures) c.loop-number.invariant
+    behind_more (in_use slots) c.loop-number.number (omega (arith, in_use_four slots c.requires)) (sym c.if-is_empty.ensures) c.loop-number.invariant
 
 pub returns : goal.returns
 returns c =

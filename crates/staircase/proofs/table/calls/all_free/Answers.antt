@@ -2,8 +2,8 @@ use Rattle.std.proofs.Common.{rules}
 use Rattle.staircase.proofs.Places.{taken_at, free_at, none_left}
 use Rattle.staircase.proofs.table.calls.all_free.Goals as goal
 
-pub returns-then-is-some : goal.returns-then-is-some
-returns-then-is-some c = search (rules, taken_at)
+pub returns-then-is_some : goal.returns-then-is_some
+returns-then-is_some c = search (rules, taken_at)
 
 pub loop-staircase-preserved : goal.loop-staircase-preserved
 loop-staircase-preserved c = search (rules, free_at)
