@@ -2,8 +2,8 @@
 """Brings the names of definitions and lemmas to the spelling of today's Rattle: words in snake case.
 
 Run once, at the top of the repository, after the kit's own script for older repositories. It goes over the files of
-specs/ and proofs/, over the clauses in src/, and over names in backquotes in README.md and docs/. Strings, comments and
-the names of functions, outputs and inputs stay. A dash stays where it joins the names of two definitions, as in
+specs/, proofs/ and src/, where only clauses have such names, and over names in backquotes in README.md and docs/. Strings,
+comments and the names of functions, outputs and inputs stay. A dash stays where it joins the names of two definitions, as in
 `placed-map`. A lemma that would fall together with a definition has `_lem` behind it.
 """
 import glob

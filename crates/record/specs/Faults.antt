@@ -11,7 +11,7 @@ record_fault Empty = record { layer = Record; number = 1; place = 0 }
 record_fault UnknownBits = record { layer = Record; number = 2; place = 0 }
 record_fault NoStaircase = record { layer = Record; number = 3; place = 0 }
 record_fault (Short length) = record { layer = Record; number = 4; place = length }
-record_fault (Long called-for) = record { layer = Record; number = 5; place = called-for }
+record_fault (Long called_for) = record { layer = Record; number = 5; place = called_for }
 record_fault (Beyond offset) = record { layer = Record; number = 6; place = offset }
 
 -- the place is that of the figure on the sheet
