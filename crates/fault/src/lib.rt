@@ -7,7 +7,7 @@ ghost use Rattle.fault.specs.Packed.{packed, Apart};
 use std::fmt;
 
 // The part of the card that turns an input away.
-#[derive(Clone, Copy)]
+#[derive(Clone, Copy, Debug, PartialEq, Eq)]
 pub enum Layer {
     Record,
     Sheet,
@@ -25,8 +25,9 @@ impl Layer {
     }
 }
 
-// What a refused input is told: the layer that refuses, the number of the refusal, and the place in the input.
-#[derive(Clone, Copy)]
+// What a refused input is told: the layer that refuses, the number of the refusal, and the place in the input. Refusals are
+// enums of their layers; here they are numbers because the line of text and the answer to callers in C have numbers.
+#[derive(Clone, Copy, Debug, PartialEq, Eq)]
 pub struct Fault {
     pub layer: Layer,
     pub number: u8,
@@ -43,14 +44,19 @@ impl Fault {
     }
 }
 
+impl fmt::Display for Layer {
+    ghost output = { λ l. Some (letter l) };
+
+    fn fmt<W: fmt::Write>(&self, f: &mut fmt::Formatter<W>) -> fmt::Result {
+        f.write_str(self.letter())
+    }
+}
+
 impl fmt::Display for Fault {
     ghost output = { λ f. Some (text f) };
 
     fn fmt<W: fmt::Write>(&self, f: &mut fmt::Formatter<W>) -> fmt::Result {
-        let layer = self.layer.letter();
-        let number = self.number;
-        let place = self.place;
-        write!(f, "! {layer} {number} {place}")
+        write!(f, "! {} {} {}", self.layer, self.number, self.place)
     }
 }
 

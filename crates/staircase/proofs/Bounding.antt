@@ -1,6 +1,5 @@
 -- The least bound is what one continuation brings, and none brings more.
-use Rattle.std.proofs.Common.{◌≡◌, ℕ, ◌*◌, ◌≤◌, ◌↔◌, List, map, get_or, Some, None, Option, unwrap_or, sym, ap, ◌∙◌, subst, arith}
-use Rattle.std.specs.Option.{option_map}
+use Rattle.std.proofs.Common.{◌≡◌, ℕ, ◌*◌, ◌≤◌, ◌↔◌, List, get_or, Some, None, Option, unwrap_or, sym, ap, ◌∙◌, subst, arith}
 use Rattle.staircase.specs.Of.{Stair}
 use Rattle.staircase.specs.Counting.{until_full, bound}
 use Rattle.staircase.specs.Tables.{least_bound}
@@ -11,7 +10,7 @@ use Rattle.staircase.proofs.Levels.{level, ordered}
 use Rattle.staircase.proofs.Joined.{continued_is}
 use Rattle.staircase.proofs.Densest.{steps, steps_bring, grows, steps_under, under_most}
 use Rattle.staircase.proofs.Counted.{left_fits}
-use Rattle.staircase.proofs.Numbered.{from_map, to_map, Least, Told, told, least_there}
+use Rattle.staircase.proofs.Numbered.{Least, told, least_there}
 use Rattle.staircase.proofs.Reached.{counted, Exact, Good, counter_of, stair_of_lem, kept_by}
 
 module _ (table : List (Option Stair)) (came : List ℕ) (now : ℕ) (cs : List (Option Counter)) (g : Good table came now cs) where
@@ -46,25 +45,19 @@ module _ (table : List (Option Stair)) (came : List ℕ) (now : ℕ) (cs : List 
     abbrev C : ℕ → ℕ
     C h = unwrap_or (least_bound cs h) 0
 
-    abbrev bounds : ℕ → List (Option ℕ)
-    bounds h = map (option_map (λ c. bound c h)) cs
-
     told_c : (h : ℕ) → least_bound cs h ≡ Some (C h)
     told_c h =
-        let l = least_there (bounds h) first.1.0 (bound first.0 h) (to_map (λ (x : Counter). bound x h) cs first.1.0 first.0 first.1.1) in
+        let l = least_there (λ c. bound c h) cs first.1.0 first.0 first.1.1 in
         l.1 ∙ sym (ap (λ (o : Option ℕ). Some (unwrap_or o 0)) l.1)
 
-    least_c : (h : ℕ) → Least (bounds h) (C h)
-    least_c h = subst (Told (bounds h)) (told_c h) (told (bounds h))
+    least_c : (h : ℕ) → Least (λ c. bound c h) cs (C h)
+    least_c h = told (λ c. bound c h) cs (C h) (told_c h)
 
     below : (c : Counter) → There c → (h : ℕ) → C h ≤ bound c h
-    below c (i, e) h = (least_c h).below i (bound c h) (to_map (λ (x : Counter). bound x h) cs i c e)
+    below c (i, e) h = (least_c h).below i c e
 
     attained : (h : ℕ) → (c : Counter) × There c × (bound c h ≡ C h)
-    attained h =
-        let l = least_c h in
-        let c = from_map (λ (x : Counter). bound x h) cs l.number (C h) l.there in
-        (c.0, (l.number, c.1), c.2)
+    attained h = let l = least_c h in (l.one, (l.number, l.there), l.gives)
 
     -- what the densest continuation brings
     brings : (h : ℕ) → brought (steps C) 0 h ≡ C h

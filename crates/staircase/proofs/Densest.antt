@@ -1,8 +1,10 @@
 -- The least of the bounds is brought by one continuation, at every horizon at once.
 use Rattle.std.proofs.Common.{◌≡◌, ℕ, zero, suc, ◌+◌, ◌-◌, ◌*◌, ◌/◌, ◌<◌, ◌≤◌, ◌⊎◌, inl, inr, le-div_iff_mul-le, zero-add, arith}
+use Rattle.std.proofs.Math.Nat.{mul-add-div_right}
 use Rattle.std.proofs.lemmas.Bool.{cases_lt}
+use Rattle.std.proofs.lemmas.Nat.{le-div}
 use Rattle.staircase.specs.Streams.{Stream, brought}
-use Rattle.staircase.proofs.Division.{div_at_least, div_grows, div_parts, div_wider, div_more, more_div, by_step}
+use Rattle.staircase.proofs.Division.{div_grows, div_parts, div_wider, by_step}
 use Rattle.staircase.proofs.Levels.{level, since_start, Peak, peak}
 
 -- the stream that has brought so many by each tick
@@ -66,7 +68,7 @@ module _
         pick (inl l) =
             let p : allowed i (suc a + d) ≤ (burst i * step i + d) / step i =
             div_grows _ _ (step i) (some_step i ti) (omega (arith, fits i ti, ordered j i tj ti h)) in
-            omega (arith, div_more d (step i) (burst i) (some_step i ti))
+            omega (arith, mul-add-div_right (some_step i ti) (burst i) d)
         pick (inr l) =
             let x : ℕ = a - left j in
             let p : allowed i (suc a + d) ≤ (burst i * step i + (x + 1 + d)) / step i =
@@ -75,10 +77,10 @@ module _
             omega (
               arith,
               some_burst j tj,
-              div_more (x + 1 + d) (step i) (burst i) (some_step i ti),
+              mul-add-div_right (some_step i ti) (burst i) (x + 1 + d),
               div_parts x d (step i) (some_step i ti),
               div_wider x (step j) (step i) (some_step j tj) h,
-              more_div x (step j) (burst j) (some_step j tj),
+              mul-add-div_right (some_step j tj) (burst j) x,
             )
 
     window : (i : A) → There i → (a d : ℕ) → C (suc a + d) ≤ C a + burst i + d / step i
@@ -108,4 +110,4 @@ module _
 pub under_most : (burst step left : ℕ) → 1 ≤ step → left ≤ burst * step → (c : Stream) → ((t : ℕ) → level step left c t ≤ burst * step) →
     (h : ℕ) → brought c 0 h ≤ most burst step left h
 under_most burst step left pos fits c u h =
-    div_at_least (burst * step - left + h) step (brought c 0 h) pos (omega (arith, since_start step left c h, u h))
+    le-div (brought c 0 h) (burst * step - left + h) step pos (omega (arith, since_start step left c h, u h))

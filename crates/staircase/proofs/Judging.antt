@@ -1,12 +1,13 @@
 -- The next sample is accepted exactly if it keeps every staircase, and otherwise refused for the lowest one that it breaks.
-use Rattle.std.proofs.Common.{◌≡◌, ℕ, ◌<◌, ◌⊎◌, List, ◌∷◌, Some, None, Option, refl, ap, subst, inl, inr, arith}
+use Rattle.std.proofs.Common.{◌≡◌, ℕ, ◌<◌, ◌⊎◌, List, ◌∷◌, Some, None, Option, sym, refl, ap, subst, inl, inr, arith}
+use Rattle.std.proofs.lemmas.Option.{none-some}
 use Rattle.std.proofs.lemmas.Bool.{cases_order}
 use Rattle.staircase.specs.Of.{Stair}
 use Rattle.staircase.specs.Tables.{lowest_empty}
 use Rattle.staircase.specs.Streams.{Stream, Keeps, falls}
 use Rattle.staircase.specs.Promise.{LowestBroken, Judged}
 use Rattle.staircase.specs.declared.counter.Counter.{Counter}
-use Rattle.staircase.proofs.Numbered.{nothing_is_some, some_is_nothing, Lowest, Found, found}
+use Rattle.staircase.proofs.Numbered.{Lowest, Found, found}
 use Rattle.staircase.proofs.Reached.{counted, Good, counter_of, stair_of_lem, token_is, all_kept}
 
 module _ (table : List (Option Stair)) (came : List ℕ) (now : ℕ) (cs : List (Option Counter)) (g : Good table came now cs) where
@@ -34,12 +35,12 @@ module _ (table : List (Option Stair)) (came : List ℕ) (now : ℕ) (cs : List 
   judged_as : (o : Option ℕ) → Found cs o → Judged table next o
   judged_as None f = record {
     accepted = (λ e. all_kept g f, λ k. refl);
-    refused = λ n. (λ e. nothing_is_some n e, λ b. absurd (b.broken (all_kept g f n b.staircase b.there)));
+    refused = λ n. (λ e. absurd (none-some n e), λ b. absurd (b.broken (all_kept g f n b.staircase b.there)));
   }
   judged_as (Some m) f =
       let b = lowest_broken m f in
       record {
-        accepted = (λ e. some_is_nothing m e, λ k. absurd (b.broken (k m b.staircase b.there)));
+        accepted = (λ e. absurd (none-some m (sym e)), λ k. absurd (b.broken (k m b.staircase b.there)));
         refused = λ n. (λ e. let same : m ≡ n = cc in subst (LowestBroken table next) same b, λ d. ap (λ (i : ℕ). Some i) (only_one m n b d));
       }
 

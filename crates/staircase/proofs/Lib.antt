@@ -1,4 +1,3 @@
-pub mod Places
 pub mod Division
 pub mod Levels
 pub mod Joined
@@ -9,6 +8,4 @@ pub mod Reached
 pub mod Judging
 pub mod Bounding
 pub mod Promised
-pub mod Filled
-pub mod Changing
-pub mod Scanning
+pub mod Keeping

@@ -1,18 +1,18 @@
 -- What stands under a number, where numbers may be missing: the lowest without a token, the least of bounds.
-use Rattle.std.proofs.Common.{◌≡◌, ℕ, zero, suc, ◌<◌, ◌≤◌, min, true, ◌⊎◌, List, [], ◌∷◌, map, get_or, Some, None, Option, sym, refl, ap, ◌∙◌, inl, inr, arith}
-use Rattle.std.proofs.lemmas.Bool.{cases_lt, eq-eqb, ne_eqb, false≢true}
+use Rattle.std.proofs.Common.{◌≡◌, ℕ, zero, suc, ◌<◌, ◌≤◌, min, true, false, ◌⊎◌, List, [], ◌∷◌, map, fold, length, get_or, Some, None, Option, sym, refl, ap, ◌∙◌, subst, inl, inr, arith}
+use Rattle.std.proofs.lemmas.Bool.{cases_lt, eqb-true, eqb-false, lt-ltb, le-ltb, false≢true}
+use Rattle.std.proofs.lemmas.List.{get_or_past}
+use Rattle.std.proofs.lemmas.Option.{none-some}
+use Rattle.std.proofs.Math.ListN.{get_or-map}
+use Rattle.std.proofs.Math.Nat.{pos_of_ne-zero}
+use Rattle.std.proofs.lemmas.List.Sums.{fails_before_first, passes_at_first}
+use Rattle.std.specs.List.{filter_map, reduce, position_or_len}
 use Rattle.std.specs.Option.{option_map}
 use Rattle.staircase.specs.Limits.{any_there}
-use Rattle.staircase.specs.Tables.{lowest_empty, lesser, least}
+use Rattle.staircase.specs.Tables.{empty_there, lowest_empty}
 use Rattle.staircase.specs.declared.counter.Counter.{Counter}
 
 module _ {A : Type 0} where
-  pub nothing_is_some : {B : Type 0} (x : A) → ◌≡◌ {A = Option A} None (Some x) → B
-  nothing_is_some x e = let z : ◌≡◌ {A = ℕ} 0 1 = cc in absurd (omega arith)
-
-  pub some_is_nothing : {B : Type 0} (x : A) → ◌≡◌ {A = Option A} (Some x) None → B
-  some_is_nothing x e = let z : ◌≡◌ {A = ℕ} 0 1 = cc in absurd (omega arith)
-
   pub any_there_lem : (os : List (Option A)) → any_there os ≡ true → (i : ℕ) × (x : A) × (get_or os i None ≡ Some x)
   any_there_lem [] h = absurd (false≢true h)
   any_there_lem (None ∷ os) h = let r = any_there_lem os h in (suc r.0, r.1, r.2)
@@ -21,21 +21,13 @@ module _ {A : Type 0} where
 -- ────────────────────────────────── under a map
 
 module _ {A B : Type 0} (f : A → B) where
-  pub get_or-mapped : (os : List (Option A)) (i : ℕ) → get_or (map (option_map f) os) i None ≡ option_map f (get_or os i None)
-  get_or-mapped [] i = refl
-  get_or-mapped (o ∷ os) zero = refl
-  get_or-mapped (o ∷ os) (suc i) = get_or-mapped os i
-
   pub mapped_some : (o : Option A) (y : B) → option_map f o ≡ Some y → (x : A) × (o ≡ Some x) × (f x ≡ y)
-  mapped_some None y e = nothing_is_some y e
+  mapped_some None y e = absurd (none-some y e)
   mapped_some (Some x) y e = (x, refl, cc)
 
   -- what stands under a number in the map, stood there before
   pub from_map : (os : List (Option A)) (i : ℕ) (y : B) → get_or (map (option_map f) os) i None ≡ Some y → (x : A) × (get_or os i None ≡ Some x) × (f x ≡ y)
-  from_map os i y e = mapped_some (get_or os i None) y (sym (get_or-mapped os i) ∙ e)
-
-  pub to_map : (os : List (Option A)) (i : ℕ) (x : A) → get_or os i None ≡ Some x → get_or (map (option_map f) os) i None ≡ Some (f x)
-  to_map os i x e = get_or-mapped os i ∙ ap (option_map f) e
+  from_map os i y e = mapped_some (get_or os i None) y (sym (get_or-map (option_map f) os i None) ∙ e)
 
   pub any_mapped : (os : List (Option A)) → any_there (map (option_map f) os) ≡ any_there os
   any_mapped [] = refl
@@ -55,78 +47,109 @@ abbrev pub Found : List (Option Counter) → Option ℕ → Type 0
 Found cs None = (i : ℕ) (c : Counter) → get_or cs i None ≡ Some c → 1 ≤ c.tokens
 Found cs (Some number) = Lowest cs number
 
--- one place before them, which has no empty counter
-shift : (o : Option Counter) → ((c : Counter) → o ≡ Some c → 1 ≤ c.tokens) → (cs : List (Option Counter)) (r : Option ℕ) → Found cs r → Found (o ∷ cs) (option_map suc r)
-shift o some cs None f = go
-  where
-    go : (i : ℕ) (c : Counter) → get_or (o ∷ cs) i None ≡ Some c → 1 ≤ c.tokens
-    go zero c e = some c e
-    go (suc i) c e = f i c e
-shift o some cs (Some n) f = record { counter = f.counter; there = f.there; empty = f.empty; lower = lower }
-  where
-    lower : (j : ℕ) (c : Counter) → j < suc n → get_or (o ∷ cs) j None ≡ Some c → 1 ≤ c.tokens
-    lower zero c l e = some c e
-    lower (suc j) c l e = f.lower j c (omega arith) e
+-- a place with an empty counter, and one without
+emptied : (o : Option Counter) → empty_there o ≡ true → (c : Counter) × (o ≡ Some c) × (c.tokens ≡ 0)
+emptied None e = absurd (false≢true e)
+emptied (Some c) e = (c, refl, eqb-true c.tokens 0 e)
+
+some_left : (o : Option Counter) (c : Counter) → empty_there o ≡ false → o ≡ Some c → 1 ≤ c.tokens
+some_left None c e is = absurd (none-some c is)
+some_left (Some d) c e is = let same : d ≡ c = cc in rw same at (pos_of_ne-zero (eqb-false d.tokens 0 e))
 
 pub found : (cs : List (Option Counter)) → Found cs (lowest_empty cs)
-found [] = λ i c e. nothing_is_some c e
-found (None ∷ cs) = shift None (λ c e. nothing_is_some c e) cs (lowest_empty cs) (found cs)
-found (Some d ∷ cs) = pick (found cs) (cases_lt 0 d.tokens)
+found cs = pick (cases_lt first (length cs))
   where
-    pick : Found cs (lowest_empty cs) → (0 < d.tokens) ⊎ (d.tokens ≤ 0) → Found (Some d ∷ cs) (lowest_empty (Some d ∷ cs))
-    pick f (inl h) =
-        rw (ne_eqb d.tokens 0 (λ e. omega arith))
-        (shift (Some d) (λ c e. let same : d ≡ c = cc in rw same at h) cs (lowest_empty cs) f)
-    pick f (inr h) =
-        let z : d.tokens ≡ 0 = omega arith in
-        rw (eq-eqb d.tokens 0 z) (record { counter = d; there = refl; empty = z; lower = λ j c l e. omega arith })
+    first : ℕ
+    first = position_or_len empty_there cs
+
+    before : (i : ℕ) (c : Counter) → i < first → get_or cs i None ≡ Some c → 1 ≤ c.tokens
+    before i c h e = some_left (get_or cs i None) c (fails_before_first empty_there cs i None h) e
+
+    inside : (i : ℕ) (c : Counter) → get_or cs i None ≡ Some c → (i < length cs) ⊎ (length cs ≤ i) → i < length cs
+    inside i c e (inl h) = h
+    inside i c e (inr h) = absurd (none-some c (sym (get_or_past cs i None h) ∙ e))
+
+    pick : (first < length cs) ⊎ (length cs ≤ first) → Found cs (lowest_empty cs)
+    pick (inl h) =
+        let c = emptied (get_or cs first None) (passes_at_first empty_there cs None h) in
+        rw (lt-ltb first (length cs) h) (record { counter = c.0; there = c.1; empty = c.2; lower = λ j c l e. before j c l e })
+    pick (inr h) = rw (le-ltb first (length cs) h) (λ i c e. before i c (omega (arith, inside i c e (cases_lt i (length cs)))) e)
 
 -- ────────────────────────────────── the least of those that are there
 
-pub record Least (os : List (Option ℕ)) (n : ℕ) : Type 0 where
-  pub number : ℕ
-  pub there : get_or os number None ≡ Some n
-  pub below : (i m : ℕ) → get_or os i None ≡ Some m → n ≤ m
+module _ {A : Type 0} (f : A → ℕ) where
+  abbrev those : List (Option A) → List ℕ
+  those os = filter_map (option_map f) os
 
--- what the answer says of them
-abbrev pub Told : List (Option ℕ) → Option ℕ → Type 0
-Told os None = (i m : ℕ) → get_or os i None ≡ Some m → ⊥
-Told os (Some n) = Least os n
+  -- one of them gives n, and none gives less
+  pub record Least (os : List (Option A)) (n : ℕ) : Type 0 where
+    pub number : ℕ
+    pub one : A
+    pub there : get_or os number None ≡ Some one
+    pub gives : f one ≡ n
+    pub below : (i : ℕ) (x : A) → get_or os i None ≡ Some x → n ≤ f x
 
-lessened : (o r : Option ℕ) (os : List (Option ℕ)) → Told os r → Told (o ∷ os) (lesser o r)
-lessened None None os t = none
-  where
-    none : (i m : ℕ) → get_or (None ∷ os) i None ≡ Some m → ⊥
-    none zero m e = nothing_is_some m e
-    none (suc i) m e = t i m e
-lessened None (Some n) os t = record { number = suc t.number; there = t.there; below = below }
-  where
-    below : (i m : ℕ) → get_or (None ∷ os) i None ≡ Some m → n ≤ m
-    below zero m e = nothing_is_some m e
-    below (suc i) m e = t.below i m e
-lessened (Some k) None os t = record { number = 0; there = refl; below = below }
-  where
-    below : (i m : ℕ) → get_or (Some k ∷ os) i None ≡ Some m → k ≤ m
-    below zero m e = let same : k ≡ m = cc in omega arith
-    below (suc i) m e = absurd (t i m e)
-lessened (Some k) (Some n) os t = pick (cases_lt k n)
-  where
-    below : (i m : ℕ) → get_or (Some k ∷ os) i None ≡ Some m → min k n ≤ m
-    below zero m e = let same : k ≡ m = cc in omega arith
-    below (suc i) m e = omega (arith, t.below i m e)
+  -- n, or what one of them gives, and none of these is less
+  record Folded (n : ℕ) (os : List (Option A)) (m : ℕ) : Type 0 where
+    given : (m ≡ n) ⊎ ((i : ℕ) × (x : A) × (get_or os i None ≡ Some x) × (f x ≡ m))
+    under : m ≤ n
+    below : (i : ℕ) (x : A) → get_or os i None ≡ Some x → m ≤ f x
 
-    pick : (k < n) ⊎ (n ≤ k) → Least (Some k ∷ os) (min k n)
-    pick (inl h) = let e : min k n ≡ k = omega arith in record { number = 0; there = rw e refl; below = below }
-    pick (inr h) = let e : min k n ≡ n = omega arith in record { number = suc t.number; there = rw e t.there; below = below }
+  past_none : (n m : ℕ) (os : List (Option A)) → Folded n os m → Folded n (None ∷ os) m
+  past_none n m os r = record { given = given r.given; under = r.under; below = below }
+    where
+      given : (m ≡ n) ⊎ ((i : ℕ) × (x : A) × (get_or os i None ≡ Some x) × (f x ≡ m)) → (m ≡ n) ⊎ ((i : ℕ) × (x : A) × (get_or (None ∷ os) i None ≡ Some x) × (f x ≡ m))
+      given (inl e) = inl e
+      given (inr p) = inr (suc p.0, p.1, p.2, p.3)
 
-pub told : (os : List (Option ℕ)) → Told os (least os)
-told [] = λ i m e. nothing_is_some m e
-told (o ∷ os) = lessened o (least os) os (told os)
+      below : (i : ℕ) (x : A) → get_or (None ∷ os) i None ≡ Some x → m ≤ f x
+      below zero x e = absurd (none-some x e)
+      below (suc i) x e = r.below i x e
 
--- where there is one, there is a least
-pub least_there : (os : List (Option ℕ)) (i m : ℕ) → get_or os i None ≡ Some m → (n : ℕ) × (least os ≡ Some n)
-least_there os i m e = pick (least os) (told os)
-  where
-    pick : (r : Option ℕ) → Told os r → (n : ℕ) × (r ≡ Some n)
-    pick None t = absurd (t i m e)
-    pick (Some n) t = (n, refl)
+  past_some : (n m : ℕ) (y : A) (os : List (Option A)) → Folded (min n (f y)) os m → Folded n (Some y ∷ os) m
+  past_some n m y os r = record { given = given r.given; under = omega (arith, r.under); below = below }
+    where
+      lesser : m ≡ min n (f y) → (n < f y) ⊎ (f y ≤ n) → (m ≡ n) ⊎ ((i : ℕ) × (x : A) × (get_or (Some y ∷ os) i None ≡ Some x) × (f x ≡ m))
+      lesser e (inl h) = inl (omega arith)
+      lesser e (inr h) = inr (0, y, refl, omega arith)
+
+      given : (m ≡ min n (f y)) ⊎ ((i : ℕ) × (x : A) × (get_or os i None ≡ Some x) × (f x ≡ m)) → (m ≡ n) ⊎ ((i : ℕ) × (x : A) × (get_or (Some y ∷ os) i None ≡ Some x) × (f x ≡ m))
+      given (inl e) = lesser e (cases_lt n (f y))
+      given (inr p) = inr (suc p.0, p.1, p.2, p.3)
+
+      below : (i : ℕ) (x : A) → get_or (Some y ∷ os) i None ≡ Some x → m ≤ f x
+      below zero x e = let same : y ≡ x = cc in omega (arith, r.under, ap f same)
+      below (suc i) x e = r.below i x e
+
+  folded : (n : ℕ) (os : List (Option A)) → Folded n os (fold min n (those os))
+  folded n [] = record { given = inl refl; under = omega arith; below = λ i x e. absurd (none-some x e) }
+  folded n (None ∷ os) = past_none n (fold min n (those os)) os (folded n os)
+  folded n (Some y ∷ os) = past_some n (fold min (min n (f y)) (those os)) y os (folded (min n (f y)) os)
+
+  -- what the answer says of them
+  pub told : (os : List (Option A)) (n : ℕ) → reduce min (those os) ≡ Some n → Least os n
+  told [] n e = absurd (none-some n e)
+  told (None ∷ os) n e = let l = told os n e in record { number = suc l.number; one = l.one; there = l.there; gives = l.gives; below = below os n l }
+    where
+      below : (os : List (Option A)) (n : ℕ) → Least os n → (i : ℕ) (x : A) → get_or (None ∷ os) i None ≡ Some x → n ≤ f x
+      below os n l zero x e = absurd (none-some x e)
+      below os n l (suc i) x e = l.below i x e
+  told (Some y ∷ os) n e = let same : fold min (f y) (those os) ≡ n = cc in subst (Least (Some y ∷ os)) same (first (fold min (f y) (those os)) (folded (f y) os))
+    where
+      first : (m : ℕ) → Folded (f y) os m → Least (Some y ∷ os) m
+      first m r = pick r.given
+        where
+          below : (i : ℕ) (x : A) → get_or (Some y ∷ os) i None ≡ Some x → m ≤ f x
+          below zero x e = let same : y ≡ x = cc in omega (arith, r.under, ap f same)
+          below (suc i) x e = r.below i x e
+
+          pick : (m ≡ f y) ⊎ ((i : ℕ) × (x : A) × (get_or os i None ≡ Some x) × (f x ≡ m)) → Least (Some y ∷ os) m
+          pick (inl e) = record { number = 0; one = y; there = refl; gives = sym e; below = below }
+          pick (inr p) = record { number = suc p.0; one = p.1; there = p.2; gives = p.3; below = below }
+
+  -- where there is one, there is a least
+  pub least_there : (os : List (Option A)) (i : ℕ) (x : A) → get_or os i None ≡ Some x → (n : ℕ) × (reduce min (those os) ≡ Some n)
+  least_there [] i x e = absurd (none-some x e)
+  least_there (None ∷ os) zero x e = absurd (none-some x e)
+  least_there (None ∷ os) (suc i) x e = least_there os i x e
+  least_there (Some y ∷ os) i x e = (fold min (f y) (those os), refl)

@@ -1,5 +1,6 @@
 -- What holds of the counters after every run: each is at the level of the samples that were accepted.
 use Rattle.std.proofs.Common.{◌≡◌, ℕ, zero, suc, ◌+◌, ◌-◌, ◌*◌, ◌≤◌, min, Bool, true, false, cond, leb, ◌↔◌, List, [], ◌∷◌, map, get_or, Some, None, Option, sym, refl, ap, ◌∙◌, subst, arith}
+use Rattle.std.proofs.Math.ListN.{get_or-map}
 use Rattle.std.specs.Option.{option_map}
 use Rattle.staircase.specs.Limits.{Within, most_burst, most_step}
 use Rattle.staircase.specs.Of.{Stair}
@@ -11,7 +12,7 @@ use Rattle.staircase.specs.declared.counter.Counter.{Counter}
 use Rattle.staircase.proofs.Levels.{level}
 use Rattle.staircase.proofs.Joined.{Old, old_more, sampled_is, level_more}
 use Rattle.staircase.proofs.Counted.{full_left, some_token, elapsed_proper, elapsed_left, charged_proper, charged_left}
-use Rattle.staircase.proofs.Numbered.{get_or-mapped, mapped_some, from_map, Found, found}
+use Rattle.staircase.proofs.Numbered.{mapped_some, from_map, Found, found}
 
 -- the staircase of a counter
 abbrev pub counted : Counter → Stair
@@ -77,7 +78,7 @@ fresh_good table lawful = record { old = λ t h. refl; shape = shape; exact = ex
     back (Some s) = refl
 
     shape : (i : ℕ) → option_map counted (get_or (fresh table) i None) ≡ get_or table i None
-    shape i = ap (option_map counted) (get_or-mapped full table i) ∙ back (get_or table i None)
+    shape i = ap (option_map counted) (get_or-map (option_map full) table i None) ∙ back (get_or table i None)
 
     new : (s : Stair) → Figures s → Exact [] 0 (full s)
     new s l = record {
@@ -101,7 +102,7 @@ module _ (table : List (Option Stair)) (came : List ℕ) (now : ℕ) (cs : List 
   -- a change that keeps burst and step
   same_shape : (f : Counter → Counter) → ((c : Counter) → counted (f c) ≡ counted c) → Good table came now cs →
       (i : ℕ) → option_map counted (get_or (map (option_map f) cs) i None) ≡ get_or table i None
-  same_shape f same g i = ap (option_map counted) (get_or-mapped f cs i) ∙ keep (get_or cs i None) ∙ g.shape i
+  same_shape f same g i = ap (option_map counted) (get_or-map (option_map f) cs i None) ∙ keep (get_or cs i None) ∙ g.shape i
     where
       keep : (o : Option Counter) → option_map counted (option_map f o) ≡ option_map counted o
       keep None = refl

@@ -1,7 +1,6 @@
 pub mod Limits
 pub mod Of
 pub mod Counting
-pub mod Placing
 pub mod Tables
 pub mod Streams
 pub mod Runs

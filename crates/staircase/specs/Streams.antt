@@ -1,5 +1,5 @@
 -- Streams of samples, and when they keep a staircase.
-use Rattle.std.specs.Prelude.{◌≡◌, ℕ, zero, suc, ◌+◌, ◌-◌, ◌/◌, ◌≤◌, cond, List, [], ◌∷◌, Some, None, Option, ◌==◌, nat_le, slice_index_or}
+use Rattle.std.specs.Prelude.{◌≡◌, ℕ, zero, suc, ◌+◌, ◌-◌, ◌/◌, ◌≤◌, if◌then◌else◌, List, [], ◌∷◌, Some, None, Option, ◌==◌, nat_le, slice_index_or}
 use Rattle.staircase.specs.Of.{Stair}
 
 -- how many samples fall in each tick, from tick 0 on, without end
@@ -25,11 +25,11 @@ KeepsAll table c = (number : ℕ) (s : Stair) → Numbered table number s → Ke
 -- the stream of samples that fell in these ticks
 abbrev pub falls : List ℕ → Stream
 falls [] t = 0
-falls (x ∷ xs) t = cond (x == t) 1 0 + falls xs t
+falls (x ∷ xs) t = (if x == t then 1 else 0) + falls xs t
 
 -- and then of a continuation, whose tick 0 is the tick `now`
 abbrev pub followed : List ℕ → ℕ → Stream → Stream
-followed came now c t = falls came t + cond (nat_le now t) (c (t - now)) 0
+followed came now c t = falls came t + (if nat_le now t then c (t - now) else 0)
 
 -- The samples that came and the continuation together keep every staircase.
 abbrev pub Continues : List (Option Stair) → List ℕ → ℕ → Stream → Type 0

@@ -1,16 +1,16 @@
 -- The counters of a table by number, and what each call makes of them.
-use Rattle.std.specs.Prelude.{ℕ, suc, min, Bool, false, cond, List, [], ◌∷◌, map, Some, None, Ok, Err, Option, Result}
+use Rattle.std.specs.Prelude.{ℕ, min, Bool, false, List, map, Some, None, Ok, Err, Option, Result}
+use Rattle.std.specs.List.{filter_map, position, reduce}
 use Rattle.std.specs.Option.{option_map}
 use Rattle.staircase.specs.Of.{Stair}
 use Rattle.staircase.specs.Counting.{full, elapsed, charged, is_empty, bound}
-use Rattle.staircase.specs.Placing.{in_use}
 use Rattle.staircase.specs.declared.counter.Counter.{Counter}
 use Rattle.staircase.specs.declared.counters.Broken.{Broken}
 use Rattle.staircase.specs.declared.counters.Counters.{Counters}
 
 -- by number
 abbrev pub counters_of : Counters → List (Option Counter)
-counters_of c = in_use c.slots
+counters_of c = c.slots.counters
 
 -- as a new table has them
 abbrev pub fresh : List (Option Stair) → List (Option Counter)
@@ -30,8 +30,7 @@ empty_there (Some c) = is_empty c
 
 -- the lowest number whose counter has no token
 abbrev pub lowest_empty : List (Option Counter) → Option ℕ
-lowest_empty [] = None
-lowest_empty (o ∷ os) = cond (empty_there o) (Some 0) (option_map suc (lowest_empty os))
+lowest_empty cs = position empty_there cs
 
 -- what an arrival answers: the staircase named for its refusal
 abbrev pub refusal_of : Result (Unit {0}) Broken → Option ℕ
@@ -46,16 +45,6 @@ sampled (Some number) cs = cs
 abbrev pub arrived : List (Option Counter) → List (Option Counter)
 arrived cs = sampled (lowest_empty cs) cs
 
--- the lesser of two, where both are there
-abbrev pub lesser : Option ℕ → Option ℕ → Option ℕ
-lesser None o = o
-lesser (Some m) None = Some m
-lesser (Some m) (Some n) = Some (min m n)
-
--- the least of those that are there
-abbrev pub least : List (Option ℕ) → Option ℕ
-least [] = None
-least (o ∷ os) = lesser o (least os)
-
+-- the least bound of those that are there
 abbrev pub least_bound : List (Option Counter) → ℕ → Option ℕ
-least_bound cs horizon = least (map (option_map (λ c. bound c horizon)) cs)
+least_bound cs horizon = reduce min (filter_map (option_map (λ c. bound c horizon)) cs)

@@ -1,7 +1,11 @@
 ghost use Rattle.std.specs.Prelude.{◌≡◌};
+ghost use Rattle.staircase.specs.Of.{stair_of};
 ghost use Rattle.staircase.specs.Counting.{Proper, full, elapsed, charged, is_empty, until_full, bound};
 
-// A staircase's counter. It has a token for each sample that may come at once, and a timer for the next token.
+use crate::Staircase;
+
+// A staircase's counter. It has a token for each sample that may come at once, and a timer for the next token. It is plain
+// by a rule of the project: `Proper` is an invariant of the table around all counters, and here a `requires`.
 #[derive(Clone, Copy)]
 pub(crate) struct Counter {
     burst: u16,
@@ -13,9 +17,11 @@ pub(crate) struct Counter {
 
 impl Counter {
     // A new counter has all its tokens.
-    pub(crate) fn full(burst: u16, step: u16) -> Counter
-        ensures { result ≡ full (record { burst = burst; step = step }) }
+    pub(crate) fn full(staircase: Staircase) -> Counter
+        ensures { result ≡ full (stair_of staircase) }
     {
+        let burst = staircase.burst.get();
+        let step = staircase.step.get();
         Counter {
             burst,
             step,

@@ -1,6 +1,7 @@
 ghost use Rattle.std.specs.Prelude.{◌≡◌, true, length};
+ghost use Rattle.std.proofs.Props.{props};
 ghost use Rattle.staircase.specs.Limits.{any_there};
-ghost use Rattle.staircase.specs.Placing.{in_use, AllProper};
+ghost use Rattle.staircase.specs.Counting.{AllProper};
 
 use crate::slots::Slots;
 
@@ -11,13 +12,12 @@ mod calls;
 pub struct Counters {
     slots: Slots,
     ghost counters: { length slots.counters ≡ 4 },
-    ghost places: { length slots.used ≡ 4 },
-    ghost some: { any_there (in_use slots) ≡ true },
-    ghost limits: { AllProper slots.counters },
+    ghost some: { any_there slots.counters ≡ true },
+    ghost limits: { AllProper slots.counters } by { Prim.hlevel props },
 }
 
 // The lowest-numbered staircase that a refused sample would break.
-#[derive(Clone, Copy)]
+#[derive(Clone, Copy, Debug, PartialEq, Eq)]
 pub struct Broken {
     pub staircase: u8,
 }

@@ -3,7 +3,7 @@ ghost use Rattle.staircase.specs.Limits.{Within};
 mod calls;
 
 // A figure of 1 to MOST.
-#[derive(Clone, Copy)]
+#[derive(Clone, Copy, Debug, PartialEq, Eq)]
 pub struct Limited<const MOST: u16> {
     value: u16,
     ghost limits: { Within MOST value },

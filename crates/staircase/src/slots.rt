@@ -1,142 +1,88 @@
-ghost use Rattle.std.specs.Prelude.{◌≡◌, ◌<◌, true, map, length, Some, None, slice_index_or};
+ghost use Rattle.std.specs.Prelude.{◌≡◌, true, map, length, Some};
 ghost use Rattle.std.specs.Option.{option_map};
-ghost use Rattle.staircase.specs.Limits.{any_there};
-ghost use Rattle.staircase.specs.Counting.{bound};
-ghost use Rattle.staircase.specs.Placing.{in_use, counter_for, Sound};
+ghost use Rattle.staircase.specs.Counting.{Sound};
 ghost use Rattle.staircase.specs.Of.{stair_of};
-ghost use Rattle.staircase.specs.Tables.{fresh, all_elapsed, all_charged, empty_there, lowest_empty, lesser, least_bound};
+ghost use Rattle.staircase.specs.Limits.{any_there};
+ghost use Rattle.staircase.specs.Tables.{fresh, all_elapsed, all_charged, lowest_empty, least_bound};
 
 use crate::Staircase;
 use crate::counter::Counter;
 
-// A place for each number that a staircase can have. Places that are not in use are ticked and charged like the
-// others, but never asked.
+// A place for each number that a staircase can have, with its counter where there is a staircase. It is plain, as the
+// counters are by a rule of the project: the table around it has `Sound` as its invariant, and here each contract states it.
 #[derive(Drop)]
 pub(crate) struct Slots {
-    counters: [Counter; 4],
-    used: [bool; 4],
-}
-
-// The counter for a place, full. A place without a staircase has that of the least one.
-fn counter_for(staircase: Option<Staircase>) -> Counter
-    ensures { result ≡ counter_for (option_map stair_of staircase) }
-{
-    match staircase {
-        Some(staircase) => Counter::full(staircase.burst.get(), staircase.step.get()),
-        None => Counter::full(1, 1),
-    }
-}
-
-// The lesser of two bounds, where both are there.
-fn lesser(one: Option<u64>, other: Option<u64>) -> Option<u64>
-    ensures { result ≡ lesser one other }
-{
-    match (one, other) {
-        (Some(one), Some(other)) => Some(one.min(other)),
-        (Some(one), None) => Some(one),
-        (None, other) => other,
-    }
+    counters: [Option<Counter>; 4],
 }
 
 impl Slots {
     // Full counters for the staircases, of which there is one at least.
     pub(crate) fn new(staircases: [Option<Staircase>; 4]) -> Slots
-        requires { (length staircases ≡ 4) × (any_there staircases ≡ true) }
-        ensures counters { in_use result ≡ fresh (map (option_map stair_of) staircases) }
-        ensures sound { Sound result }
+        requires four { length staircases ≡ 4 }
+        requires some { any_there staircases ≡ true }
+        ensures counters { result.counters ≡ fresh (map (option_map stair_of) staircases) }
+        ensures sound { Sound result.counters }
     {
-        let [first, second, third, fourth] = staircases;
         Slots {
-            counters: [
-                counter_for(first),
-                counter_for(second),
-                counter_for(third),
-                counter_for(fourth),
-            ],
-            used: [
-                first.is_some(),
-                second.is_some(),
-                third.is_some(),
-                fourth.is_some(),
-            ],
+            counters: staircases.map(|staircase| staircase.map(Counter::full)),
         }
     }
 
     // A tick passes each counter.
     pub(crate) fn tick(&mut self)
-        requires { Sound self.old }
-        ensures after { in_use self.new ≡ all_elapsed (in_use self.old) }
-        ensures sound { Sound self.new }
+        requires { Sound self.old.counters }
+        ensures after { self.new.counters ≡ all_elapsed self.old.counters }
+        ensures sound { Sound self.new.counters }
     {
-        for counter in self.counters.iter_mut() {
-            counter.tick();
+        // `flatten` would lend the counters too: tried, and the proof did not close, since nothing says what it leaves in the array
+        for place in self.counters.iter_mut() {
+            if let Some(counter) = place {
+                counter.tick();
+            }
         }
     }
 
     // A sample takes a token from each counter.
     pub(crate) fn charge(&mut self)
-        requires { Sound self.old }
-        ensures after { in_use self.new ≡ all_charged (in_use self.old) }
-        ensures sound { Sound self.new }
+        requires { Sound self.old.counters }
+        ensures after { self.new.counters ≡ all_charged self.old.counters }
+        ensures sound { Sound self.new.counters }
     {
-        for counter in self.counters.iter_mut() {
-            counter.charge();
-        }
-    }
-
-    // Whether the place is in use and its counter has no token.
-    fn is_empty(&self, place: usize) -> bool
-        requires { (Sound self.now) × (place < 4) }
-        ensures { result ≡ empty_there (slice_index_or (in_use self.now) place None) }
-    {
-        self.used[place] && self.counters[place].is_empty()
-    }
-
-    // The bound of the counter at the place, if that is in use.
-    fn bound_at(&self, place: usize, horizon: u32) -> Option<u64>
-        requires { (Sound self.now) × (place < 4) }
-        ensures { result ≡ option_map (λ c. bound c horizon) (slice_index_or (in_use self.now) place None) }
-    {
-        if self.used[place] {
-            Some(self.counters[place].bound(horizon))
-        } else {
-            None
-        }
-    }
-
-    // The lowest number in use whose counter has no token.
-    pub(crate) fn lowest_empty(&self) -> Option<u8>
-        requires { Sound self.now }
-        ensures { result ≡ lowest_empty (in_use self.now) }
-    {
-        for number in 0..4u8 {
-            if self.is_empty(number as usize) {
-                return Some(number);
+        // without `flatten`, as in `tick`
+        for place in self.counters.iter_mut() {
+            if let Some(counter) = place {
+                counter.charge();
             }
         }
-        None
     }
 
-    // The least bound of the counters in use, if there is one.
+    // The lowest number whose counter has no token.
+    pub(crate) fn lowest_empty(&self) -> Option<u8>
+        requires { Sound self.now.counters }
+        ensures { result ≡ lowest_empty self.now.counters }
+    {
+        self.counters
+            .iter()
+            .position(|counter| counter.is_some_and(|counter| counter.is_empty()))
+            .map(|number| number as u8)
+    }
+
+    // The least bound of the counters, if there is one.
     fn least_bound(&self, horizon: u32) -> Option<u64>
-        requires { Sound self.now }
-        ensures { result ≡ least_bound (in_use self.now) horizon }
+        requires { Sound self.now.counters }
+        ensures { result ≡ least_bound self.now.counters horizon }
     {
-        let mut least = None;
-        for place in 0..4 {
-            least = lesser(least, self.bound_at(place, horizon));
-        }
-        least
+        self.counters
+            .iter()
+            .filter_map(|place| place.map(|counter| counter.bound(horizon)))
+            .min()
     }
 
-    // The least bound of the counters in use.
+    // The least bound of the counters, of which there is one at least.
     pub(crate) fn bound(&self, horizon: u32) -> u64
-        requires { Sound self.now }
-        ensures { Some result ≡ least_bound (in_use self.now) horizon }
+        requires { Sound self.now.counters }
+        ensures { Some result ≡ least_bound self.now.counters horizon }
     {
-        let Some(bound) = self.least_bound(horizon) else {
-            unreachable()
-        };
-        bound
+        self.least_bound(horizon).unwrap()
     }
 }

@@ -10,23 +10,15 @@ use crate::slots::Slots;
 use crate::{Staircase, Table};
 
 impl Counters {
-    // Full counters for the staircases, of which there is one at least.
-    fn of(staircases: [Option<Staircase>; 4]) -> Counters
-        requires { (length staircases ≡ 4) × (any_there staircases ≡ true) }
-        ensures value { counters_of result ≡ fresh (map (option_map stair_of) staircases) }
-        ensures promise { Promise (map (option_map stair_of) staircases) (counters_of result) }
-    {
-        Counters {
-            slots: Slots::new(staircases),
-        }
-    }
-
     // The counters of the table, all full.
+    #[tactic(auto, using(crate::proofs::Keeping::fresh_promised))]
     pub fn new(table: Table) -> Counters
         ensures value { counters_of result ≡ fresh (stairs_of table) }
         ensures promise { Promise (stairs_of table) (counters_of result) }
     {
-        Counters::of(table.staircases)
+        Counters {
+            slots: Slots::new(table.staircases),
+        }
     }
 
     // A tick passes: timers run, and those that elapse bring their counter a token.

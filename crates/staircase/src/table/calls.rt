@@ -9,12 +9,7 @@ use super::{Staircase, Table};
 fn all_free(staircases: &[Option<Staircase>]) -> bool
     ensures { result ≡ not (any_there staircases.now) }
 {
-    for staircase in staircases.iter() {
-        if staircase.is_some() {
-            return false;
-        }
-    }
-    true
+    !staircases.iter().any(Option::is_some)
 }
 
 impl Table {
@@ -28,14 +23,17 @@ impl Table {
         Some(Table { staircases })
     }
 
+    // By number.
+    pub fn staircases(&self) -> [Option<Staircase>; 4]
+        ensures { result ≡ staircases_of self.now }
+    {
+        self.staircases
+    }
+
     // The staircase of that number, if the table has it.
     pub fn staircase(&self, number: usize) -> Option<Staircase>
         ensures { result ≡ slice_index_or (staircases_of self.now) number None }
     {
-        if number < 4 {
-            self.staircases[number]
-        } else {
-            None
-        }
+        *self.staircases.get(number)?
     }
 }

@@ -1,6 +1,7 @@
 use Rattle.std.proofs.Common.{◌≡◌, ◌++◌, map, take, drop}
+use Rattle.std.specs.Option.{option_map}
 use Rattle.staircase.specs.Counting.{elapsed}
 use Rattle.staircase.proofs.slots.Slots.tick.Given as goal
 
-abbrev pub invariant-loop-counter : goal.invariant-loop-counter
-invariant-loop-counter l = l.counter-items ≡ map elapsed (take l.counter-index l.initial.counter-items) ++ drop l.counter-index l.initial.counter-items
+abbrev pub invariant-loop-place : goal.invariant-loop-place
+invariant-loop-place l = l.place-items ≡ map (option_map elapsed) (take l.place-index l.initial.place-items) ++ drop l.place-index l.initial.place-items

@@ -1,12 +1,7 @@
-use Rattle.std.proofs.Common.{rules}
-use Rattle.staircase.proofs.Places.{taken_at, free_at, none_left}
+use Rattle.std.proofs.Common.{not, ap, is_some, tests, rules}
+use Rattle.std.proofs.lemmas.Iterator.{YieldsList-from_slice}
+use Rattle.std.proofs.lemmas.Iterator.Search.{any_from_yields_List}
 use Rattle.staircase.proofs.table.calls.all_free.Goals as goal
 
-pub returns-then-is_some : goal.returns-then-is_some
-returns-then-is_some c = search (rules, taken_at)
-
-pub loop-staircase-preserved : goal.loop-staircase-preserved
-loop-staircase-preserved c = search (rules, free_at)
-
 pub returns : goal.returns
-returns c = search (rules, none_left)
+returns c = ap not (any_from_yields_List is_some _ _ _ c.any.ensures.ran (YieldsList-from_slice c.args.staircases.now cc) (λ x b q k. search (rules, tests)))
