@@ -1,31 +1,11 @@
--- How many arguments there are says what is asked for.
-use Rattle.std.proofs.Common.{◌≡◌, ℕ, List, [], ◌∷◌, map, length, get_or, Some, None, refl, arith}
-use Rattle.inspect.specs.declared.asking.Request.TheVariants.{Record}
+-- Five arguments ask for a sheet.
+use Rattle.std.proofs.Common.{◌≡◌, ℕ, List, [], ◌∷◌, map, length, get_or, ap, ◌∙◌, arith}
 use Rattle.inspect.specs.Requests.{sheet_asked, requested}
 
-module _ {A : Type 0} (f : A → List ℕ) where
-  pub one_asked : (xs : List A) → length xs ≡ 1 → Some Record ≡ requested (map f xs)
-  one_asked [] h = absurd (omega arith)
-  one_asked (a ∷ []) h = refl
-  one_asked (a ∷ b ∷ xs) h = absurd (omega arith)
-
-  pub none_asked : (xs : List A) → (length xs ≡ 1 → ⊥) → (length xs ≡ 5 → ⊥) → None ≡ requested (map f xs)
-  none_asked [] h k = refl
-  none_asked (a ∷ []) h k = absurd (h refl)
-  none_asked (a ∷ b ∷ []) h k = refl
-  none_asked (a ∷ b ∷ c ∷ []) h k = refl
-  none_asked (a ∷ b ∷ c ∷ d ∷ []) h k = refl
-  none_asked (a ∷ b ∷ c ∷ d ∷ e ∷ []) h k = absurd (k refl)
-  none_asked (a ∷ b ∷ c ∷ d ∷ e ∷ g ∷ xs) h k = refl
-
-  pub sheet_asked_lem :
-      (xs : List A) (flag period jitter distance : A) → length xs ≡ 5 →
-      flag ≡ get_or xs 1 flag → period ≡ get_or xs 2 period → jitter ≡ get_or xs 3 jitter → distance ≡ get_or xs 4 distance →
-      sheet_asked (f flag) (f period) (f jitter) (f distance) ≡ requested (map f xs)
-  sheet_asked_lem [] p q r s h e₁ e₂ e₃ e₄ = absurd (omega arith)
-  sheet_asked_lem (a ∷ []) p q r s h e₁ e₂ e₃ e₄ = absurd (omega arith)
-  sheet_asked_lem (a ∷ b ∷ []) p q r s h e₁ e₂ e₃ e₄ = absurd (omega arith)
-  sheet_asked_lem (a ∷ b ∷ c ∷ []) p q r s h e₁ e₂ e₃ e₄ = absurd (omega arith)
-  sheet_asked_lem (a ∷ b ∷ c ∷ d ∷ []) p q r s h e₁ e₂ e₃ e₄ = absurd (omega arith)
-  sheet_asked_lem (a ∷ b ∷ c ∷ d ∷ e ∷ []) p q r s h e₁ e₂ e₃ e₄ = λ i. sheet_asked (f (e₁ i)) (f (e₂ i)) (f (e₃ i)) (f (e₄ i))
-  sheet_asked_lem (a ∷ b ∷ c ∷ d ∷ e ∷ g ∷ xs) p q r s h e₁ e₂ e₃ e₄ = absurd (omega arith)
+pub five_asked :
+    {A : Type 0} (f : A → List ℕ) (xs : List A) {b c d e : A} {flag period jitter distance : List ℕ} → length xs ≡ 5 →
+    b ≡ get_or xs 1 b → flag ≡ f b → c ≡ get_or xs 2 c → period ≡ f c → d ≡ get_or xs 3 d → jitter ≡ f d → e ≡ get_or xs 4 e → distance ≡ f e →
+    sheet_asked flag period jitter distance ≡ requested (map f xs)
+five_asked f (v ∷ w ∷ x ∷ y ∷ z ∷ []) h e₁ t₁ e₂ t₂ e₃ t₃ e₄ t₄ =
+    λ i. sheet_asked ((t₁ ∙ ap f e₁) i) ((t₂ ∙ ap f e₂) i) ((t₃ ∙ ap f e₃) i) ((t₄ ∙ ap f e₄) i)
+five_asked f _ h e₁ t₁ e₂ t₂ e₃ t₃ e₄ t₄ = absurd (omega arith)

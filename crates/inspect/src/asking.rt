@@ -4,7 +4,8 @@ ghost use Rattle.inspect.specs.Numerals.{digit_of, numeral};
 
 use record::Sheet;
 
-// What a call of the program asks for.
+// What a call of the program asks for. An optional sheet would be no plainer, since the record would have no name in it.
+#[derive(Clone, Copy, Debug, PartialEq, Eq)]
 pub(crate) enum Request {
     Record,
     Sheet(Sheet),
@@ -14,26 +15,20 @@ pub(crate) enum Request {
 fn digit(byte: u8) -> Option<u32>
     ensures { result ≡ digit_of byte }
 {
-    if byte < b'0' || byte > b'9' {
-        return None;
-    }
-    Some((byte - b'0') as u32)
+    char::from(byte).to_digit(10)
 }
 
 // A number in decimal digits. One of more than 32 bits counts as the greatest of 32.
 fn number(text: &str) -> Option<u32>
     ensures { result ≡ numeral text.now }
 {
-    let bytes = text.as_bytes();
-    if bytes.is_empty() {
+    if text.is_empty() {
         return None;
     }
-    let mut value: u32 = 0;
-    for byte in bytes {
-        let digit = digit(*byte)?;
-        value = value.saturating_mul(10).saturating_add(digit);
-    }
-    Some(value)
+    text.bytes().try_fold(0_u32, |value, byte| {
+        let digit = digit(byte)?;
+        Some(value.saturating_mul(10).saturating_add(digit))
+    })
 }
 
 // The sheet whose figures stand behind the flag.
@@ -51,17 +46,13 @@ fn sheet(flag: &str, period: &str, jitter: &str, distance: &str) -> Option<Reque
 }
 
 // What the arguments behind the program's name ask for, if it is anything.
+#[tactic(auto, using(crate::proofs::Arguments::five_asked))]
 pub(crate) fn asked(arguments: &[String]) -> Option<Request>
     ensures { result ≡ requested (map string_bytes arguments.now) }
 {
     match arguments {
         [_] => Some(Request::Record),
-        [_, flag, period, jitter, distance] => sheet(
-            flag.as_str(),
-            period.as_str(),
-            jitter.as_str(),
-            distance.as_str(),
-        ),
+        [_, flag, period, jitter, distance] => sheet(flag, period, jitter, distance),
         _ => None,
     }
 }

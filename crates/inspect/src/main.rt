@@ -11,19 +11,22 @@ ghost use Rattle.record.specs.Sheets.{sheet_read};
 mod asking;
 mod reporting;
 
-use anyhow::anyhow;
+use anyhow::Context;
 use asking::{Request, asked};
 use fault::Fault;
 use record::{Setup, Sheet, read};
-use reporting::report;
+use reporting::Report;
 use std::{env, fs};
 
+// What a record says, or its fault. This and `sheet_says` are alike in their bodies alone: each has a promise of its own,
+// which one function for both could not state.
 fn record_says(bytes: &[u8]) -> Result<Setup, Fault>
     ensures { said result ≡ result_map_both (λ c. c) record_fault (reading bytes.now) }
 {
     Ok(read(bytes)?)
 }
 
+// What a sheet says, or its fault.
 fn sheet_says(sheet: Sheet) -> Result<Setup, Fault>
     ensures { said result ≡ result_map_both (λ c. c) sheet_fault (sheet_read sheet) }
 {
@@ -32,21 +35,18 @@ fn sheet_says(sheet: Sheet) -> Result<Setup, Fault>
 
 // What the record in the file says. A file that cannot be read counts as an empty record.
 fn record_in(rt: &HostRuntime, path: &str) -> Result<Setup, Fault> {
-    match fs::read(rt, path) {
-        Ok(bytes) => record_says(bytes.as_slice()),
-        Err(_) => record_says(&[]),
-    }
+    let bytes = fs::read(rt, path).unwrap_or_else(|_| Vec::new(rt.alloc()));
+    record_says(&bytes)
 }
 
 fn run(rt: &HostRuntime) -> anyhow::Result<()> {
-    let heap = rt.alloc();
-    let arguments: Vec<String> = env::args(rt)?.collect(heap)?;
-    let found = match asked(arguments.as_slice()) {
-        Some(Request::Record) => record_in(rt, "table.bin"),
-        Some(Request::Sheet(sheet)) => sheet_says(sheet),
-        None => return Err(anyhow!("usage: inspect [--sheet PERIOD JITTER DISTANCE]")),
+    let arguments: Vec<String> = env::args(rt)?.collect(rt.alloc())?;
+    let request = asked(&arguments).context("usage: inspect [--sheet PERIOD JITTER DISTANCE]")?;
+    let found = match request {
+        Request::Record => record_in(rt, "table.bin"),
+        Request::Sheet(sheet) => sheet_says(sheet),
     };
-    rt.print(report(heap, found)?)?;
+    rt.print(Report(found))?;
     Ok(())
 }
 
@@ -68,7 +68,7 @@ mod tests {
         found: Result<Setup, Fault>,
         text: &str,
     ) -> Result<(), Fail> {
-        assert!(rt; report(heap, found)?.as_str() == text);
+        assert_eq!(rt; Report(found).to_string(heap)?.as_str(), text);
         Ok(())
     }
 

@@ -1,80 +1,102 @@
-ghost use Rattle.std.specs.Prelude.{◌≡◌, IfOk, string_bytes};
+ghost use Rattle.std.specs.Prelude.{Some};
 ghost use Rattle.std.specs.Option.{option_map};
 ghost use Rattle.staircase.specs.Of.{stair_of, stairs_of};
 ghost use Rattle.record.specs.Setups.{content_of, said};
-ghost use Rattle.inspect.specs.Report.{stair_line, stair_lines, figure_line, figure_lines, content_lines, report_lines};
+ghost use Rattle.inspect.specs.Report.{stair_line, stair_lines, figure_line, content_lines, report_lines};
 
 use fault::Fault;
 use record::Setup;
 use staircase::{Staircase, Table};
-use std::alloc::{AllocError, Global};
+use std::fmt;
 
-fn stair_line(
-    heap: Global,
+// The line of a staircase with its number; a number without a staircase has none.
+#[derive(Clone, Copy)]
+struct StairLine {
     number: usize,
     staircase: Option<Staircase>,
-) -> Result<String, AllocError>
-    ensures { IfOk result (λ t. string_bytes t ≡ stair_line number (option_map stair_of staircase)) }
-{
-    let Some(staircase) = staircase else {
-        return Ok(String::new(heap));
-    };
-    let burst = staircase.burst.get();
-    let step = staircase.step.get();
-    format!(in heap; "staircase {number}: burst {burst}, step {step}\n")
 }
 
-fn figure_line(heap: Global, name: &str, value: u16, stated: bool) -> Result<String, AllocError>
-    ensures { IfOk result (λ t. string_bytes t ≡ figure_line name.now value stated) }
-{
-    let mark = if stated { "" } else { " (default)" };
-    format!(in heap; "{name} {value}{mark}\n")
+impl fmt::Display for StairLine {
+    ghost output = { λ l. Some (stair_line l.number (option_map stair_of l.staircase)) };
+
+    fn fmt<W: fmt::Write>(&self, f: &mut fmt::Formatter<W>) -> fmt::Result {
+        let Some(staircase) = self.staircase else {
+            return Ok(());
+        };
+        let burst = staircase.burst.get();
+        let step = staircase.step.get();
+        writeln!(f, "staircase {}: burst {burst}, step {step}", self.number)
+    }
 }
 
 // The lines of the staircases, in the order of their numbers.
-fn table_lines(heap: Global, table: Table) -> Result<String, AllocError>
-    ensures { IfOk result (λ t. string_bytes t ≡ stair_lines 0 (stairs_of table)) }
-{
-    let first = stair_line(heap, 0, table.staircase(0))?;
-    let second = stair_line(heap, 1, table.staircase(1))?;
-    let third = stair_line(heap, 2, table.staircase(2))?;
-    let fourth = stair_line(heap, 3, table.staircase(3))?;
-    format!(in heap; "{first}{second}{third}{fourth}")
+#[derive(Clone, Copy)]
+struct TableLines(Table);
+
+impl fmt::Display for TableLines {
+    ghost output = { λ t. Some (stair_lines 0 (stairs_of t.0)) };
+
+    fn fmt<W: fmt::Write>(&self, f: &mut fmt::Formatter<W>) -> fmt::Result {
+        for (number, staircase) in self.0.staircases().into_iter().enumerate() {
+            write!(f, "{}", StairLine { number, staircase })?;
+        }
+        Ok(())
+    }
 }
 
-// The lines of the capacity and the break-even.
-fn figure_lines(heap: Global, setup: Setup) -> Result<String, AllocError>
-    ensures { IfOk result (λ t. string_bytes t ≡ figure_lines (content_of setup)) }
-{
-    let capacity = figure_line(
-        heap,
-        "capacity",
-        setup.capacity.get(),
-        setup.stated.capacity,
-    )?;
-    let break_even = figure_line(
-        heap,
-        "break-even",
-        setup.break_even.get(),
-        setup.stated.break_even,
-    )?;
-    format!(in heap; "{capacity}{break_even}")
+// The line of a figure, which is marked if it was not given. The value is printed either way, so an `Option` in place of
+// value and flag would be no plainer: it would lose the default.
+#[derive(Clone, Copy)]
+struct FigureLine<'a> {
+    name: &'a str,
+    value: u16,
+    given: bool,
 }
 
-fn setup_lines(heap: Global, setup: Setup) -> Result<String, AllocError>
-    ensures { IfOk result (λ t. string_bytes t ≡ content_lines (content_of setup)) }
-{
-    let table = table_lines(heap, setup.table)?;
-    let figures = figure_lines(heap, setup)?;
-    format!(in heap; "{table}{figures}")
+impl fmt::Display for FigureLine<'_> {
+    ghost output = { λ l. Some (figure_line l.name.now l.value l.given) };
+
+    fn fmt<W: fmt::Write>(&self, f: &mut fmt::Formatter<W>) -> fmt::Result {
+        let mark = if self.given { "" } else { " (default)" };
+        writeln!(f, "{} {}{mark}", self.name, self.value)
+    }
+}
+
+// The lines of the staircases, the capacity and the break-even.
+#[derive(Clone, Copy)]
+struct SetupLines(Setup);
+
+impl fmt::Display for SetupLines {
+    ghost output = { λ s. Some (content_lines (content_of s.0)) };
+
+    fn fmt<W: fmt::Write>(&self, f: &mut fmt::Formatter<W>) -> fmt::Result {
+        let setup = self.0;
+        let table = TableLines(setup.table);
+        let capacity = FigureLine {
+            name: "capacity",
+            value: setup.capacity().get(),
+            given: setup.capacity.is_some(),
+        };
+        let break_even = FigureLine {
+            name: "break-even",
+            value: setup.break_even().get(),
+            given: setup.break_even.is_some(),
+        };
+        write!(f, "{table}{capacity}{break_even}")
+    }
 }
 
 // All that is printed of what was found.
-pub(crate) fn report(heap: Global, found: Result<Setup, Fault>) -> Result<String, AllocError>
-    ensures { IfOk result (λ t. string_bytes t ≡ report_lines (said found)) }
-{
-    match found {
-        Ok(setup) => setup_lines(heap, setup),
-        Err(fault) => format!(in heap; "{fault}\n"),
+#[derive(Clone, Copy)]
+pub(crate) struct Report(pub(crate) Result<Setup, Fault>);
+
+impl fmt::Display for Report {
+    ghost output = { λ r. Some (report_lines (said r.0)) };
+
+    fn fmt<W: fmt::Write>(&self, f: &mut fmt::Formatter<W>) -> fmt::Result {
+        match self.0 {
+            Ok(setup) => write!(f, "{}", SetupLines(setup)),
+            Err(fault) => writeln!(f, "{fault}"),
+        }
     }
 }

@@ -1,6 +1,8 @@
 -- Reading is exact: what it takes, what it refuses, and nothing else.
-use Rattle.std.proofs.Common.{◌≡◌, ℕ, zero, suc, ◌/◌, ◌%◌, ◌^◌, ◌<◌, ◌≤◌, Bool, true, false, cond, ltb, ◌⊎◌, List, [], ◌∷◌, length, get_or, drop, Some, None, Ok, Err, Option, Result, sym, refl, ap, ◌∙◌, subst, inl, inr, arith}
-use Rattle.std.proofs.lemmas.Bool.{cases_Bool, cases_lt, both_ways, ltb-true, ltb-false, lt-ltb, le-ltb, eqb-false}
+use Rattle.std.proofs.Common.{◌≡◌, ℕ, zero, suc, ◌/◌, ◌%◌, ◌^◌, ◌<◌, ◌≤◌, Bool, true, false, ltb, ◌⊎◌, List, [], ◌∷◌, length, get_or, drop, Some, None, Ok, Err, Option, Result, sym, refl, ap, ◌∙◌, subst, inl, inr, arith, ◌||◌}
+use Rattle.std.proofs.lemmas.Bool.{cases_Bool, both_ways, ltb-true, ltb-false, lt-ltb, le-ltb, eqb-false}
+use Rattle.std.proofs.lemmas.Bool.Decides.{nat_tests}
+use Rattle.std.proofs.lemmas.List.Elements.{All-drop}
 use Rattle.staircase.specs.Limits.{any_there}
 use Rattle.record.specs.Layout.{Fields, placed, bit_map, layout, stands, called_for}
 use Rattle.record.specs.Limits.{Each, Kept, first_beyond}
@@ -10,59 +12,34 @@ use Rattle.record.specs.Exact.{Says, bits_of, Condition, order, First, Exact}
 use Rattle.record.specs.declared.faults.RecordFault.{RecordFault}
 use Rattle.record.specs.declared.faults.RecordFault.TheVariants.{Empty, UnknownBits, NoStaircase, Short, Long, Beyond}
 use Rattle.record.proofs.Firsts.{first_said, said_first, each_found, found_each}
-use Rattle.record.proofs.Laid.{fields_in, Bytes, lengths, back, forth, stands6, stands7, some_stands}
+use Rattle.record.proofs.Laid.{fields_in, Byte, Bytes, lengths, back, forth, stands6, stands7, some_stands}
 
 -- ────────────────────────────────── the tests of a bit map
 
-known_not : (a b : Bool) → cond a true b ≡ true → (a ≡ true) ⊎ (b ≡ true)
-known_not true b e = inl refl
-known_not false b e = inr e
+known_not : (a b : Bool) → (a || b) ≡ true → (a ≡ true) ⊎ (b ≡ true)
+known_not a b e = grind arith
 
-not_known : (a b : Bool) → (a ≡ true) ⊎ (b ≡ true) → cond a true b ≡ true
-not_known true b h = refl
-not_known false true h = refl
-not_known false false (inl e) = e
-not_known false false (inr e) = e
+not_known : (a b : Bool) → (a ≡ true) ⊎ (b ≡ true) → (a || b) ≡ true
+not_known a b h = grind arith
 
-none_first : (a b : Bool) → cond a true b ≡ false → (a ≡ false) × (b ≡ false)
-none_first false b e = (refl, e)
-none_first true b e = absurd (both_ways true e refl)
-
-none_of : (a b c d : Bool) → cond a true (cond b true (cond c true d)) ≡ false → (a ≡ false) × (b ≡ false) × (c ≡ false) × (d ≡ false)
-none_of a b c d e =
-    let p = none_first a _ e in
-    let q = none_first b _ p.1 in
-    let r = none_first c d q.1 in
-    (p.0, q.0, r.0, r.1)
+none_first : (a b : Bool) → (a || b) ≡ false → (a ≡ false) × (b ≡ false)
+none_first a b e = grind arith
 
 no_stairs : (bits : ℕ) → some_staircase bits ≡ false → (k : ℕ) → k < 4 → stands bits k ≡ false
-no_stairs bits e zero h = (none_of (stands bits 0) (stands bits 1) (stands bits 2) (stands bits 3) e).0
-no_stairs bits e (suc zero) h = (none_of (stands bits 0) (stands bits 1) (stands bits 2) (stands bits 3) e).1
-no_stairs bits e (suc (suc zero)) h = (none_of (stands bits 0) (stands bits 1) (stands bits 2) (stands bits 3) e).2
-no_stairs bits e (suc (suc (suc zero))) h = (none_of (stands bits 0) (stands bits 1) (stands bits 2) (stands bits 3) e).3
+no_stairs bits e zero h = grind arith
+no_stairs bits e (suc zero) h = grind arith
+no_stairs bits e (suc (suc zero)) h = grind arith
+no_stairs bits e (suc (suc (suc zero))) h = grind arith
 no_stairs bits e (suc (suc (suc (suc k)))) h = absurd (omega arith)
 
-stairs_no : (bits : ℕ) → ((k : ℕ) → k < 4 → stands bits k ≡ false) → some_staircase bits ≡ false
-stairs_no bits h =
-    let h₀ = h 0 (omega arith) in
-    let h₁ = h 1 (omega arith) in
-    let h₂ = h 2 (omega arith) in
-    let h₃ = h 3 (omega arith) in
-    λ i. cond (h₀ i) true (cond (h₁ i) true (cond (h₂ i) true (h₃ i)))
-
-low_or : (n : ℕ) → n < 256 → (n < 64) ⊎ ((n / 2 ^ 6 % 2 ≡ 1) ⊎ (n / 2 ^ 7 % 2 ≡ 1))
-low_or n h =
-    elim (cases_lt n 64) [
-      | inl a ↦ inl a
-      | inr a ↦ elim (cases_lt n 128) [ inl b ↦ inr (inl (omega arith)) | inr b ↦ inr (inr (omega arith)) ]
-    ]
+pub stairs_no : (bits : ℕ) → ((k : ℕ) → k < 4 → stands bits k ≡ false) → some_staircase bits ≡ false
+stairs_no bits h = rw (h 0 (omega arith), h 1 (omega arith), h 2 (omega arith), h 3 (omega arith)) refl
 
 -- a byte without bits 6 and 7 is below 64
 low : (bits : ℕ) → bits < 256 → unknown bits ≡ false → bits < 64
 low bits h e =
-    let a = eqb-false _ _ (none_first _ _ e).0 in
-    let b = eqb-false _ _ (none_first _ _ e).1 in
-    elim (low_or bits h) [ inl x ↦ x | inr (inl y) ↦ absurd (a y) | inr (inr y) ↦ absurd (b y) ]
+    let none : (stands bits 6 ≡ false) × (stands bits 7 ≡ false) = none_first _ _ e in
+    omega (arith, eqb-false (bits / 2 ^ 6 % 2) 1 none.0, eqb-false (bits / 2 ^ 7 % 2) 1 none.1)
 
 -- ────────────────────────────────── what reading comes to
 
@@ -109,7 +86,7 @@ Good bytes (Ok c) = Says bytes c
 Good bytes (Err e) = First bytes e
 
 not_empty : (b : ℕ) (bs : List ℕ) → (b ∷ bs) ≡ [] → ⊥
-not_empty b bs e = let n = ap length e in omega arith
+not_empty b bs e = cc
 
 judged_good :
     (b : ℕ) (bs : List ℕ) (o : Option ℕ) → first_beyond 1 (placed (fields_after b bs)) ≡ o →
@@ -117,7 +94,7 @@ judged_good :
     Bytes (b ∷ bs) →
     Good (b ∷ bs) (unless o (meaning (fields_after b bs)))
 judged_good b bs None e u s n p =
-    let laid = forth b bs (low b p.0 u) p.1 n in
+    let laid = forth b bs (low b (p 0 0 (omega arith)) u) (All-drop Byte 1 (b ∷ bs) p) n in
     record {
       fields = fields_after b bs;
       some = sym (some_stands (fields_after b bs)) ∙ ap some_staircase (ap (λ (l : List ℕ). get_or l 0 0) laid) ∙ s;
@@ -127,7 +104,7 @@ judged_good b bs None e u s n p =
     }
 judged_good b bs (Some o) e u s n p =
     record {
-      applies = (fields_after b bs, forth b bs (low b p.0 u) p.1 n, first_said 1 _ o e);
+      applies = (fields_after b bs, forth b bs (low b (p 0 0 (omega arith)) u) (All-drop Byte 1 (b ∷ bs) p) n, first_said 1 _ o e);
       none_before = none_below (b ∷ bs) 5 (omega arith) (λ _. not_empty b bs) (λ _ c. both_ways _ u (not_known _ _ c)) (λ _ c. both_ways _ (stairs_no b c) s) (λ _. omega arith) (λ _. omega arith);
     }
 
@@ -169,18 +146,18 @@ good (b ∷ bs) p =
 laid_taken : (f : Fields) → any_there (meaning f).staircases ≡ true → Each Kept (placed f) → reading (layout f) ≡ Ok (meaning f)
 laid_taken f some limits =
     let n = lengths f in
-    at_fields (bit_map f) (drop 1 (layout f)) (λ i. cond (stands6 f i) true (stands7 f i)) (some_stands f ∙ some) (le-ltb _ _ (omega arith)) (le-ltb _ _ (omega arith))
+    at_fields (bit_map f) (drop 1 (layout f)) (rw (stands6 f, stands7 f) refl) (some_stands f ∙ some) (le-ltb _ _ (omega arith)) (le-ltb _ _ (omega arith))
     ∙ ap judgement (back f)
     ∙ ap (λ (o : Option ℕ). unless o (meaning f)) (found_each 1 (placed f) limits)
 
 not_unknown : (b : ℕ) → ((stands b 6 ≡ true) ⊎ (stands b 7 ≡ true) → ⊥) → unknown b ≡ false
-not_unknown b h = elim (cases_Bool (unknown b)) [ inl u ↦ absurd (h (known_not _ _ u)) | inr u ↦ u ]
+not_unknown b h = grind arith
 
-has_stairs : (b : ℕ) → (((k : ℕ) → k < 4 → stands b k ≡ false) → ⊥) → some_staircase b ≡ true
-has_stairs b h = elim (cases_Bool (some_staircase b)) [ inl s ↦ s | inr s ↦ absurd (h (no_stairs b s)) ]
+pub has_stairs : (b : ℕ) → (((k : ℕ) → k < 4 → stands b k ≡ false) → ⊥) → some_staircase b ≡ true
+has_stairs b h = grind (arith, no_stairs)
 
 not_below : (m n : ℕ) → (m < n → ⊥) → ltb m n ≡ false
-not_below m n h = elim (cases_lt m n) [ inl l ↦ absurd (h l) | inr l ↦ le-ltb m n l ]
+not_below m n h = grind (arith, nat_tests)
 
 beyond_found : (bytes : List ℕ) (o : ℕ) → Condition bytes (Beyond o) → first_beyond 1 (placed (fields_in bytes)) ≡ Some o
 beyond_found bytes o (f, laid, first) = ap (λ (l : List ℕ). first_beyond 1 (placed (fields_in l))) (sym laid) ∙ ap (λ (g : Fields). first_beyond 1 (placed g)) (back f) ∙ said_first 1 (placed f) o first

@@ -1,6 +1,10 @@
 -- Layouts are read back, and what is read lays out to the bytes again.
-use Rattle.std.proofs.Common.{◌≡◌, ℕ, zero, suc, ◌+◌, ◌*◌, ◌/◌, ◌%◌, ◌^◌, ◌<◌, ◌≤◌, Bool, true, false, cond, eqb, List, [], ◌∷◌, ◌++◌, length, get_or, drop, is_some, Some, None, Option, sym, refl, ap, ◌∙◌, append_assoc, append-nil, arith, length-append, length-drop}
-use Rattle.staircase.specs.Limits.{any_there, most_capacity, most_break_even}
+use Rattle.std.proofs.Common.{◌≡◌, ℕ, suc, ◌+◌, ◌*◌, ◌/◌, ◌%◌, ◌^◌, ◌<◌, ◌≤◌, Bool, true, false, if◌then◌else◌, eqb, List, [], ◌∷◌, ◌++◌, length, get_or, drop, is_some, Some, None, Option, sym, refl, ap, ◌∙◌, append_assoc, append-nil, arith, length-append, length-drop, ◌||◌}
+use Rattle.std.specs.List.{All}
+use Rattle.std.proofs.lemmas.List.{drop_all}
+use Rattle.std.proofs.lemmas.List.Elements.{All-drop}
+use Rattle.std.proofs.lemmas.Bool.Decides.{nat_tests}
+use Rattle.staircase.specs.Limits.{any_there}
 use Rattle.staircase.specs.Of.{Stair}
 use Rattle.record.specs.Layout.{Fields, Placed, together, stair_placed, figure_placed, placed, bit, bit_map, layout, stands, wide, called_for}
 use Rattle.record.specs.Reading.{stair_in, figure_in, past1, past2, past3, past4, past5, fields_after, some_staircase}
@@ -21,12 +25,10 @@ figure_bytes None = []
 figure_bytes (Some n) = two_bytes n
 
 stair_together : (v : Option Stair) → together (stair_placed v) ≡ stair_bytes v
-stair_together None = refl
-stair_together (Some s) = refl
+stair_together v = grind arith
 
 figure_together : (most : ℕ) (v : Option ℕ) → together (figure_placed most v) ≡ figure_bytes v
-figure_together most None = refl
-figure_together most (Some n) = refl
+figure_together most v = grind arith
 
 pub together-append : (ps qs : List Placed) → together (ps ++ qs) ≡ together ps ++ together qs
 together-append [] qs = refl
@@ -37,9 +39,11 @@ abbrev pub fields_in : List ℕ → Fields
 fields_in bytes = fields_after (get_or bytes 0 0) (drop 1 bytes)
 
 -- each is a byte
+abbrev pub Byte : ℕ → Type 0
+Byte b = b < 256
+
 abbrev pub Bytes : List ℕ → Type 0
-Bytes [] = Unit {0}
-Bytes (b ∷ bs) = (b < 256) × Bytes bs
+Bytes bytes = All Byte bytes
 
 -- ────────────────────────────────── one field and back
 
@@ -53,59 +57,52 @@ two_forth h l p =
     rw (a, b)
 
 stair_back : (v : Option Stair) (bs : List ℕ) → stair_in (is_some v) (stair_bytes v ++ bs) ≡ v
-stair_back None bs = refl
-stair_back (Some s) bs = ap (λ (n : ℕ). Some (record { burst = s.burst; step = n })) (two_back s.step)
+stair_back v bs = grind arith
 
 stair_rest : (v : Option Stair) (bs : List ℕ) → drop (wide (is_some v) 3) (stair_bytes v ++ bs) ≡ bs
-stair_rest None bs = refl
-stair_rest (Some s) bs = refl
+stair_rest v bs = grind arith
 
 figure_back : (v : Option ℕ) (bs : List ℕ) → figure_in (is_some v) (figure_bytes v ++ bs) ≡ v
-figure_back None bs = refl
-figure_back (Some n) bs = ap (λ (m : ℕ). Some m) (two_back n)
+figure_back v bs = grind arith
+
+last_back : (v : Option ℕ) → figure_in (is_some v) (figure_bytes v) ≡ v
+last_back v = grind (arith, two_back)
 
 figure_rest : (v : Option ℕ) (bs : List ℕ) → drop (wide (is_some v) 2) (figure_bytes v ++ bs) ≡ bs
-figure_rest None bs = refl
-figure_rest (Some n) bs = refl
+figure_rest v bs = grind arith
 
 stair_forth : (s : Bool) (bs : List ℕ) → Bytes bs → wide s 3 ≤ length bs → stair_bytes (stair_in s bs) ++ drop (wide s 3) bs ≡ bs
 stair_forth false bs p h = refl
 stair_forth true [] p h = absurd (omega arith)
 stair_forth true (x ∷ []) p h = absurd (omega arith)
 stair_forth true (x ∷ y ∷ []) p h = absurd (omega arith)
-stair_forth true (x ∷ y ∷ z ∷ bs) p h = ap (λ (l : List ℕ). x ∷ (l ++ bs)) (two_forth y z p.1.1.0)
+stair_forth true (x ∷ y ∷ z ∷ bs) p h = ap (λ (l : List ℕ). x ∷ (l ++ bs)) (two_forth y z (p 2 0 (omega arith)))
 
 figure_forth : (s : Bool) (bs : List ℕ) → Bytes bs → wide s 2 ≤ length bs → figure_bytes (figure_in s bs) ++ drop (wide s 2) bs ≡ bs
 figure_forth false bs p h = refl
 figure_forth true [] p h = absurd (omega arith)
 figure_forth true (x ∷ []) p h = absurd (omega arith)
-figure_forth true (x ∷ y ∷ bs) p h = ap (λ (l : List ℕ). l ++ bs) (two_forth x y p.1.0)
+figure_forth true (x ∷ y ∷ bs) p h = ap (λ (l : List ℕ). l ++ bs) (two_forth x y (p 1 0 (omega arith)))
 
 pub stair_some : (s : Bool) (bs : List ℕ) → is_some (stair_in s bs) ≡ s
-stair_some true bs = refl
-stair_some false bs = refl
+stair_some s bs = grind arith
 
 pub figure_some : (s : Bool) (bs : List ℕ) → is_some (figure_in s bs) ≡ s
-figure_some true bs = refl
-figure_some false bs = refl
+figure_some s bs = grind arith
 
 pub stair_long : (v : Option Stair) → length (stair_bytes v) ≡ wide (is_some v) 3
-stair_long None = refl
-stair_long (Some s) = refl
+stair_long v = grind arith
 
 pub figure_long : (v : Option ℕ) → length (figure_bytes v) ≡ wide (is_some v) 2
-figure_long None = refl
-figure_long (Some n) = refl
+figure_long v = grind arith
 
 -- ────────────────────────────────── the bit map
 
 bit_small : {A : Type 0} (v : Option A) → bit v ≤ 1
-bit_small None = omega arith
-bit_small (Some x) = omega arith
+bit_small v = grind arith
 
 bit_tells : {A : Type 0} (v : Option A) (n : ℕ) → n ≡ bit v → eqb n 1 ≡ is_some v
-bit_tells None n e = rw e
-bit_tells (Some x) n e = rw e
+bit_tells v n e = grind arith
 
 -- the binary digits of a bit map, and none above them
 record Digits (m a b c d e g : ℕ) : Type 0 where
@@ -149,54 +146,22 @@ abbrev widths_of : Bool → Bool → Bool → Bool → Bool → Bool → ℕ
 widths_of s₀ s₁ s₂ s₃ s₄ s₅ = 1 + (wide s₀ 3 + wide s₁ 3 + wide s₂ 3 + wide s₃ 3 + wide s₄ 2 + wide s₅ 2)
 
 abbrev some_of : Bool → Bool → Bool → Bool → Bool
-some_of s₀ s₁ s₂ s₃ = cond s₀ true (cond s₁ true (cond s₂ true s₃))
+some_of s₀ s₁ s₂ s₃ = s₀ || (s₁ || (s₂ || s₃))
 
 abbrev body : Fields → List ℕ
 body f = stair_bytes f.staircase0 ++ (stair_bytes f.staircase1 ++ (stair_bytes f.staircase2 ++ (stair_bytes f.staircase3 ++ (figure_bytes f.capacity ++ figure_bytes f.break_even))))
 
-six : (a b c d e g : List Placed) → together (a ++ (b ++ (c ++ (d ++ (e ++ g))))) ≡ together a ++ (together b ++ (together c ++ (together d ++ (together e ++ together g))))
-six a b c d e g = simp together-append
-
 body_laid : (f : Fields) → together (placed f) ≡ body f
-body_laid f =
-    let a = stair_together f.staircase0 in
-    let b = stair_together f.staircase1 in
-    let c = stair_together f.staircase2 in
-    let d = stair_together f.staircase3 in
-    let e = figure_together most_capacity f.capacity in
-    let g = figure_together most_break_even f.break_even in
-    six (stair_placed f.staircase0) (stair_placed f.staircase1) (stair_placed f.staircase2) (stair_placed f.staircase3) (figure_placed most_capacity f.capacity) (figure_placed most_break_even f.break_even)
-    ∙ (λ i. a i ++ (b i ++ (c i ++ (d i ++ (e i ++ g i)))))
+body_laid f = simp (together-append, stair_together, figure_together)
 
 some_there : (a b c d : Option Stair) → some_of (is_some a) (is_some b) (is_some c) (is_some d) ≡ any_there (a ∷ b ∷ c ∷ d ∷ [])
-some_there (Some x) b c d = refl
-some_there None (Some x) c d = refl
-some_there None None (Some x) d = refl
-some_there None None None (Some x) = refl
-some_there None None None None = refl
+some_there a b c d = grind arith
 
 fields_back :
     (a b c d : Option Stair) (e g : Option ℕ) →
     let f : Fields = record { staircase0 = a; staircase1 = b; staircase2 = c; staircase3 = d; capacity = e; break_even = g } in
     fields_by (is_some a) (is_some b) (is_some c) (is_some d) (is_some e) (is_some g) (body f) ≡ f
-fields_back a b c d e g =
-    let t₅ = figure_bytes g in
-    let t₄ = figure_bytes e ++ t₅ in
-    let t₃ = stair_bytes d ++ t₄ in
-    let t₂ = stair_bytes c ++ t₃ in
-    let t₁ = stair_bytes b ++ t₂ in
-    let e₁ = stair_rest a t₁ in
-    let e₂ = ap (drop (wide (is_some b) 3)) e₁ ∙ stair_rest b t₂ in
-    let e₃ = ap (drop (wide (is_some c) 3)) e₂ ∙ stair_rest c t₃ in
-    let e₄ = ap (drop (wide (is_some d) 3)) e₃ ∙ stair_rest d t₄ in
-    let e₅ = ap (drop (wide (is_some e) 2)) e₄ ∙ figure_rest e t₅ in
-    let p₀ = stair_back a t₁ in
-    let p₁ = ap (stair_in (is_some b)) e₁ ∙ stair_back b t₂ in
-    let p₂ = ap (stair_in (is_some c)) e₂ ∙ stair_back c t₃ in
-    let p₃ = ap (stair_in (is_some d)) e₃ ∙ stair_back d t₄ in
-    let p₄ = ap (figure_in (is_some e)) e₄ ∙ figure_back e t₅ in
-    let p₅ = ap (figure_in (is_some g)) (e₅ ∙ sym (append-nil t₅)) ∙ figure_back g [] in
-    λ i. record { staircase0 = p₀ i; staircase1 = p₁ i; staircase2 = p₂ i; staircase3 = p₃ i; capacity = p₄ i; break_even = p₅ i }
+fields_back a b c d e g = simp (stair_rest, stair_back, figure_rest, figure_back, last_back)
 
 module _ (f : Fields) where
   stands0 : stands (bit_map f) 0 ≡ is_some f.staircase0
@@ -234,20 +199,15 @@ module _ (f : Fields) where
       ∙ simp length-append (omega (arith, stair_long f.staircase0, stair_long f.staircase1, stair_long f.staircase2, stair_long f.staircase3, figure_long f.capacity, figure_long f.break_even))
 
   pub back : fields_in (layout f) ≡ f
-  back =
-      ap (fields_after (bit_map f)) (body_laid f)
-      ∙ (λ i. fields_by (stands0 i) (stands1 i) (stands2 i) (stands3 i) (stands4 i) (stands5 i) (body f))
-      ∙ fields_back f.staircase0 f.staircase1 f.staircase2 f.staircase3 f.capacity f.break_even
+  back = rw (body_laid f, stands0, stands1, stands2, stands3, stands4, stands5) (fields_back f.staircase0 f.staircase1 f.staircase2 f.staircase3 f.capacity f.break_even)
 
 pub lengths : Lengths
 lengths f = long f
 
 -- ────────────────────────────────── from bytes to fields and back to bytes
 
-digit_back : (n : ℕ) → n < 2 → cond (eqb n 1) 1 0 ≡ n
-digit_back zero h = refl
-digit_back (suc zero) h = refl
-digit_back (suc (suc n)) h = absurd (omega arith)
+digit_back : (n : ℕ) → n < 2 → (if eqb n 1 then 1 else 0) ≡ n
+digit_back n h = grind (arith, nat_tests)
 
 -- the binary digits of a number below 64 make it up
 made_up : (n : ℕ) → n < 64 → n / 2 ^ 0 % 2 + 2 * (n / 2 ^ 1 % 2) + 4 * (n / 2 ^ 2 % 2) + 8 * (n / 2 ^ 3 % 2) + 16 * (n / 2 ^ 4 % 2) + 32 * (n / 2 ^ 5 % 2) ≡ n
@@ -260,25 +220,14 @@ made_up n h =
 
 bits_back : (bits : ℕ) (bytes : List ℕ) → bits < 64 → bit_map (fields_after bits bytes) ≡ bits
 bits_back bits bytes h =
-    let some = λ (k : ℕ) (xs : List ℕ). ap (λ (b : Bool). cond b 1 0) (stair_some (stands bits k) xs) ∙ digit_back (bits / 2 ^ k % 2) (omega arith) in
-    let more = λ (k : ℕ) (xs : List ℕ). ap (λ (b : Bool). cond b 1 0) (figure_some (stands bits k) xs) ∙ digit_back (bits / 2 ^ k % 2) (omega arith) in
+    let some = λ (k : ℕ) (xs : List ℕ). ap (λ (b : Bool). if b then 1 else 0) (stair_some (stands bits k) xs) ∙ digit_back (bits / 2 ^ k % 2) (omega arith) in
+    let more = λ (k : ℕ) (xs : List ℕ). ap (λ (b : Bool). if b then 1 else 0) (figure_some (stands bits k) xs) ∙ digit_back (bits / 2 ^ k % 2) (omega arith) in
     omega (arith, some 0 bytes, some 1 (past1 bits bytes), some 2 (past2 bits bytes), some 3 (past3 bits bytes), more 4 (past4 bits bytes), more 5 (past5 bits bytes), made_up bits h)
-
-bytes_drop : (n : ℕ) (xs : List ℕ) → Bytes xs → Bytes (drop n xs)
-bytes_drop zero xs p = p
-bytes_drop (suc n) [] p = tt
-bytes_drop (suc n) (x ∷ xs) p = bytes_drop n xs p.1
-
-dropped : (n : ℕ) (xs : List ℕ) → length xs ≤ n → drop n xs ≡ []
-dropped zero [] h = refl
-dropped zero (x ∷ xs) h = absurd (omega arith)
-dropped (suc n) [] h = refl
-dropped (suc n) (x ∷ xs) h = dropped n xs (omega arith)
 
 last_forth : (s : Bool) (bs : List ℕ) → Bytes bs → length bs ≡ wide s 2 → figure_bytes (figure_in s bs) ≡ bs
 last_forth s bs p h =
     sym (append-nil (figure_bytes (figure_in s bs)))
-    ∙ ap (λ (l : List ℕ). figure_bytes (figure_in s bs) ++ l) (sym (dropped (wide s 2) bs (omega arith)))
+    ∙ ap (λ (l : List ℕ). figure_bytes (figure_in s bs) ++ l) (sym (drop_all (wide s 2) bs (omega arith)))
     ∙ figure_forth s bs p (omega arith)
 
 body_forth :
@@ -295,11 +244,11 @@ body_forth s₀ s₁ s₂ s₃ s₄ s₅ r₀ p₀ e =
     let n₃ = length-drop (wide s₂ 3) r₂ in
     let n₄ = length-drop (wide s₃ 3) r₃ in
     let n₅ = length-drop (wide s₄ 2) r₄ in
-    let p₁ = bytes_drop (wide s₀ 3) r₀ p₀ in
-    let p₂ = bytes_drop (wide s₁ 3) r₁ p₁ in
-    let p₃ = bytes_drop (wide s₂ 3) r₂ p₂ in
-    let p₄ = bytes_drop (wide s₃ 3) r₃ p₃ in
-    let p₅ = bytes_drop (wide s₄ 2) r₄ p₄ in
+    let p₁ = All-drop Byte (wide s₀ 3) r₀ p₀ in
+    let p₂ = All-drop Byte (wide s₁ 3) r₁ p₁ in
+    let p₃ = All-drop Byte (wide s₂ 3) r₂ p₂ in
+    let p₄ = All-drop Byte (wide s₃ 3) r₃ p₃ in
+    let p₅ = All-drop Byte (wide s₄ 2) r₄ p₄ in
     let e₅ = last_forth s₅ r₅ p₅ (omega arith) in
     let e₄ = ap (λ (l : List ℕ). figure_bytes (figure_in s₄ r₄) ++ l) e₅ ∙ figure_forth s₄ r₄ p₄ (omega arith) in
     let e₃ = ap (λ (l : List ℕ). stair_bytes (stair_in s₃ r₃) ++ l) e₄ ∙ stair_forth s₃ r₃ p₃ (omega arith) in

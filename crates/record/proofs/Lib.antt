@@ -1,4 +1,3 @@
-pub mod Taken
 pub mod Moves
 pub mod Laid
 pub mod Firsts

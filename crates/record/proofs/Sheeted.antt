@@ -1,7 +1,8 @@
 -- Reading a sonde sheet is exact.
 use Rattle.std.proofs.Common.{◌≡◌, ℕ, suc, ◌*◌, ◌/◌, ◌<◌, true, false, leb, Ok, Err, Result, sym, refl, ap, ◌∙◌, subst, inl, inr, div-lt_iff_lt-mul, div-mul-le_self, add-one, arith}
 use native.Mathlib.Nat.{div-eq_of_lt-le}
-use Rattle.std.proofs.lemmas.Bool.{cases_Bool, cases_lt, both_ways, leb-true, leb-false, le-leb, lt-leb}
+use Rattle.std.proofs.lemmas.Bool.{cases_Bool, cases_lt, leb-true, leb-false, le-leb, lt-leb}
+use Rattle.std.proofs.lemmas.Bool.Decides.{nat_tests}
 use Rattle.staircase.specs.Limits.{Within, within, most_burst, most_step}
 use Rattle.record.specs.Setups.{Content}
 use Rattle.record.specs.Sheets.{sheet_content, burst_of, sheet_read, Describes, Refuses, SheetExact}
@@ -11,10 +12,10 @@ use Rattle.record.specs.declared.sheet.Sheet.{Sheet}
 use Rattle.record.proofs.Firsts.{within_true, true_within}
 
 false_within : (most n : ℕ) → (Within most n → ⊥) → within most n ≡ false
-false_within most n h = elim (cases_Bool (within most n)) [ inl e ↦ absurd (h (within_true most n e)) | inr e ↦ e ]
+false_within most n h = grind (arith, nat_tests)
 
 within_false : (most n : ℕ) → within most n ≡ false → Within most n → ⊥
-within_false most n e h = both_ways (within most n) e (true_within most n h)
+within_false most n e h = grind (arith, nat_tests)
 
 module _ (s : Sheet) where
   abbrev p : ℕ

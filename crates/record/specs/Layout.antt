@@ -1,5 +1,5 @@
 -- What can stand in a table record, and the bytes that it is laid out in.
-use Rattle.std.specs.Prelude.{ℕ, ◌+◌, ◌*◌, ◌/◌, ◌%◌, ◌^◌, Bool, cond, List, [], ◌∷◌, ◌++◌, is_some, Some, None, Option, ◌==◌, nat_lt}
+use Rattle.std.specs.Prelude.{ℕ, ◌+◌, ◌*◌, ◌/◌, ◌%◌, ◌^◌, Bool, if◌then◌else◌, List, [], ◌∷◌, ◌++◌, is_some, Some, None, Option, ◌==◌, nat_lt}
 use Rattle.staircase.specs.Limits.{most_burst, most_step, most_capacity, most_break_even}
 use Rattle.staircase.specs.Of.{Stair}
 
@@ -47,7 +47,7 @@ placed f =
     ++ (figure_placed most_capacity f.capacity ++ figure_placed most_break_even f.break_even))))
 
 abbrev pub bit : {A : Type 0} → Option A → ℕ
-bit v = cond (is_some v) 1 0
+bit v = if is_some v then 1 else 0
 
 -- bits 0 to 3 for the staircases, 4 for the capacity, 5 for the break-even
 abbrev pub bit_map : Fields → ℕ
@@ -65,11 +65,11 @@ stands bits k = bits / 2 ^ k % 2 == 1
 
 -- the bytes of a field that takes n of them, where it stands
 abbrev pub wide : Bool → ℕ → ℕ
-wide there n = cond there n 0
+wide there n = if there then n else 0
 
 -- the bytes that the field of bit k takes
 abbrev pub width : ℕ → ℕ → ℕ
-width bits k = wide (stands bits k) (cond (nat_lt k 4) 3 2)
+width bits k = wide (stands bits k) (if nat_lt k 4 then 3 else 2)
 
 -- the bytes that the staircases take
 abbrev pub table_width : ℕ → ℕ

@@ -1,5 +1,5 @@
 -- The limits of what stands in a record, and the first figure that breaks them.
-use Rattle.std.specs.Prelude.{◌≡◌, ℕ, ◌+◌, Bool, cond, List, [], ◌∷◌, ◌++◌, length, Some, None, Option}
+use Rattle.std.specs.Prelude.{◌≡◌, ℕ, ◌+◌, Bool, if◌then◌else◌, List, [], ◌∷◌, ◌++◌, length, Some, None, Option}
 use Rattle.staircase.specs.Limits.{Within, within}
 use Rattle.record.specs.Layout.{Placed, together}
 
@@ -27,4 +27,4 @@ pub record FirstBeyond (start : ℕ) (ps : List Placed) (o : ℕ) : Type 0 where
 -- the same, found by going through them
 abbrev pub first_beyond : ℕ → List Placed → Option ℕ
 first_beyond o [] = None
-first_beyond o (p ∷ ps) = cond (kept p) (first_beyond (o + length p.bytes) ps) (Some o)
+first_beyond o (p ∷ ps) = if kept p then first_beyond (o + length p.bytes) ps else Some o

@@ -1,5 +1,5 @@
 -- How a table record is read.
-use Rattle.std.specs.Prelude.{ℕ, suc, ◌+◌, ◌*◌, Bool, true, false, cond, List, [], ◌∷◌, length, drop, Some, None, Ok, Err, Option, Result, nat_lt, slice_index}
+use Rattle.std.specs.Prelude.{ℕ, suc, ◌+◌, ◌*◌, Bool, true, false, ◌||◌, if◌then◌else◌, List, [], ◌∷◌, length, drop, Some, None, Ok, Err, Option, Result, nat_lt, slice_index}
 use Rattle.staircase.specs.Of.{Stair}
 use Rattle.record.specs.Layout.{Fields, placed, stands, width, called_for}
 use Rattle.record.specs.Limits.{first_beyond}
@@ -52,19 +52,24 @@ fields_after bits bytes = record {
 
 -- a bit that stands for no field is set
 abbrev pub unknown : ℕ → Bool
-unknown bits = cond (stands bits 6) true (stands bits 7)
+unknown bits = stands bits 6 || stands bits 7
 
 abbrev pub some_staircase : ℕ → Bool
-some_staircase bits = cond (stands bits 0) true (cond (stands bits 1) true (cond (stands bits 2) true (stands bits 3)))
+some_staircase bits = stands bits 0 || (stands bits 1 || (stands bits 2 || stands bits 3))
 
--- the bit map by itself, and then the record's length against it
+-- the record's length against the bit map
+abbrev pub length_checked : ℕ → ℕ → Result (Unit {0}) RecordFault
+length_checked bits n =
+    if nat_lt n (called_for bits) then Err (Short n)
+    else if nat_lt (called_for bits) n then Err (Long (called_for bits))
+    else Ok tt
+
+-- the bit map by itself, and then the length
 abbrev pub bits_checked : ℕ → ℕ → Result (Unit {0}) RecordFault
 bits_checked bits n =
-    cond (unknown bits) (Err UnknownBits)
-    (cond (some_staircase bits)
-    (cond (nat_lt n (called_for bits)) (Err (Short n))
-    (cond (nat_lt (called_for bits) n) (Err (Long (called_for bits))) (Ok tt)))
-    (Err NoStaircase))
+    if unknown bits then Err UnknownBits
+    else if some_staircase bits then length_checked bits n
+    else Err NoStaircase
 
 -- a value that stands unless some field is beyond its limits
 abbrev pub unless : {A : Type 0} → Option ℕ → A → Result A RecordFault

@@ -1,6 +1,6 @@
 -- What a record or a sheet says, once defaults stand in for what is left out.
 use Rattle.std.specs.Prelude.{ℕ, Bool, List, [], ◌∷◌, is_some, Option, Result}
-use Rattle.std.specs.Option.{unwrap_or}
+use Rattle.std.specs.Option.{unwrap_or, option_map}
 use Rattle.std.specs.Result.{result_map_both}
 use Rattle.staircase.specs.Of.{Stair, stairs_of, value_of}
 use Rattle.record.specs.Layout.{Fields}
@@ -14,24 +14,24 @@ pub record Content : Type 0 where
   pub capacity_stated : Bool
   pub break_even_stated : Bool
 
-abbrev pub content_of : Setup → Content
-content_of s = record {
-  staircases = stairs_of s.table;
-  capacity = value_of s.capacity;
-  break_even = value_of s.break_even;
-  capacity_stated = s.stated.capacity;
-  break_even_stated = s.stated.break_even;
-}
-
--- what an answer says, or why there is none
-abbrev pub said : {E : Type 0} → Result Setup E → Result Content E
-said r = result_map_both content_of (λ e. e) r
-
 abbrev pub default_capacity : ℕ
 default_capacity = 256
 
 abbrev pub default_break_even : ℕ
 default_break_even = 1
+
+abbrev pub content_of : Setup → Content
+content_of s = record {
+  staircases = stairs_of s.table;
+  capacity = unwrap_or (option_map value_of s.capacity) default_capacity;
+  break_even = unwrap_or (option_map value_of s.break_even) default_break_even;
+  capacity_stated = is_some s.capacity;
+  break_even_stated = is_some s.break_even;
+}
+
+-- what an answer says, or why there is none
+abbrev pub said : {E : Type 0} → Result Setup E → Result Content E
+said r = result_map_both content_of (λ e. e) r
 
 abbrev pub meaning : Fields → Content
 meaning f = record {

@@ -1,5 +1,5 @@
 -- What a sonde sheet says: its period, its jitter and its least distance make one staircase or two.
-use Rattle.std.specs.Prelude.{◌≡◌, ℕ, zero, suc, ◌+◌, ◌*◌, ◌/◌, ◌<◌, ◌≤◌, false, cond, ◌↔◌, [], ◌∷◌, Some, None, Ok, Err, Option, Result, nat_le}
+use Rattle.std.specs.Prelude.{◌≡◌, ℕ, zero, suc, ◌+◌, ◌*◌, ◌/◌, ◌<◌, ◌≤◌, false, not, if◌then◌else◌, ◌↔◌, [], ◌∷◌, Some, None, Ok, Err, Option, Result, nat_le}
 use Rattle.staircase.specs.Limits.{Within, within, most_burst, most_step}
 use Rattle.staircase.specs.Of.{Stair}
 use Rattle.record.specs.Setups.{Content, default_capacity, default_break_even}
@@ -13,7 +13,7 @@ apart zero = None
 apart (suc d) = Some (record { burst = 1; step = suc d })
 
 abbrev pub distance_read : ℕ → Result (Option Stair) SheetFault
-distance_read d = cond (nat_le d most_step) (Ok (apart d)) (Err Distance)
+distance_read d = if nat_le d most_step then Ok (apart d) else Err Distance
 
 -- a burst and a period, a least distance, and the defaults
 abbrev pub sheet_content : ℕ → ℕ → ℕ → Content
@@ -30,11 +30,10 @@ burst_of s = 1 + s.jitter / s.period
 
 abbrev pub sheet_read : Sheet → Result Content SheetFault
 sheet_read s =
-    cond (within most_step s.period)
-    (cond (within most_burst (burst_of s))
-    (cond (nat_le s.distance most_step) (Ok (sheet_content (burst_of s) s.period s.distance)) (Err Distance))
-    (Err Jitter))
-    (Err Period)
+    if not (within most_step s.period) then Err Period
+    else if not (within most_burst (burst_of s)) then Err Jitter
+    else if nat_le s.distance most_step then Ok (sheet_content (burst_of s) s.period s.distance)
+    else Err Distance
 
 -- ────────────────────────────────── when it is taken, and when not
 

@@ -1,20 +1,28 @@
-ghost use Rattle.std.specs.Prelude.{◌≡◌, ◌<◌, ◌≤◌};
+ghost use Rattle.std.specs.Prelude.{◌≡◌, ◌+◌, ◌<◌, ◌≤◌};
 ghost use Rattle.record.specs.Layout.{stands, width, called_for};
-ghost use Rattle.record.specs.Reading.{bits_checked};
+ghost use Rattle.record.specs.Reading.{some_staircase, bits_checked};
 
 use crate::faults::RecordFault;
 
 // The first byte of a record: which fields stand in it.
-#[derive(Clone, Copy)]
+#[derive(Clone, Copy, Debug, PartialEq, Eq)]
 pub(crate) struct BitMap(pub(crate) u8);
 
 impl BitMap {
-    // Whether that bit stands.
+    // Whether that bit stands. Bits go by their numbers in the record's format: an enum of fields would be no plainer, since
+    // two of the bits stand for none.
     pub(crate) fn has(self, bit: u8) -> bool
         requires { bit < 8 }
         ensures { result ≡ stands self.0 bit }
     {
         self.0 >> bit & 1 == 1
+    }
+
+    // Whether the bit of a staircase stands.
+    fn has_staircase(self) -> bool
+        ensures { result ≡ some_staircase self.0 }
+    {
+        (0..4).any(|bit| self.has(bit))
     }
 
     // How many bytes the field of that bit takes.
@@ -32,17 +40,20 @@ impl BitMap {
         }
     }
 
+    // How many bytes the fields take.
+    fn fields_width(self) -> u16
+        ensures value { 1 + result ≡ called_for self.0 }
+        ensures few { result ≤ 18 }
+    {
+        (0..6).map(|bit| self.width(bit)).sum()
+    }
+
     // How long a record with these bits has to be.
     fn called_for(self) -> u16
         ensures value { result ≡ called_for self.0 }
         ensures few { result ≤ 19 }
     {
-        1 + self.width(0)
-            + self.width(1)
-            + self.width(2)
-            + self.width(3)
-            + self.width(4)
-            + self.width(5)
+        1 + self.fields_width()
     }
 
     // What the bits alone, and with them the length of the record, are refused for.
@@ -52,7 +63,7 @@ impl BitMap {
         if self.has(6) || self.has(7) {
             return Err(RecordFault::UnknownBits);
         }
-        if !(self.has(0) || self.has(1) || self.has(2) || self.has(3)) {
+        if !self.has_staircase() {
             return Err(RecordFault::NoStaircase);
         }
         let called_for = self.called_for();

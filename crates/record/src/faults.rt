@@ -4,7 +4,7 @@ ghost use Rattle.record.specs.Faults.{record_fault, sheet_fault};
 use fault::{Fault, Layer};
 
 // Why a table record is refused.
-#[derive(Clone, Copy)]
+#[derive(Clone, Copy, Debug, PartialEq, Eq)]
 pub enum RecordFault {
     // there is no bit map
     Empty,
@@ -41,7 +41,7 @@ impl From<RecordFault> for Fault {
 }
 
 // Which figure of a sonde sheet is beyond its limits.
-#[derive(Clone, Copy)]
+#[derive(Clone, Copy, Debug, PartialEq, Eq)]
 pub enum SheetFault {
     Period,
     // the burst that comes of it is

@@ -11,16 +11,15 @@ mod sheet;
 pub use check::napkinridge_record_check;
 pub use faults::{RecordFault, SheetFault};
 pub use reading::read;
-pub use setup::{Setup, Stated};
+pub use setup::Setup;
 pub use sheet::Sheet;
 
 #[cfg(test)]
 mod tests {
     use super::*;
-    use fault::Fault;
-    use staircase::Staircase;
+    use fault::{Fault, Layer};
+    use staircase::{BreakEven, Burst, Capacity, Staircase, Step, Table};
     use std::process::Abort;
-    use std::test::Fail;
 
     // The check tells this number at this place.
     fn told(rt: &impl Abort, bytes: &[u8], number: u8, place: u16) {
@@ -30,11 +29,15 @@ mod tests {
         );
     }
 
-    fn figures(staircase: Option<Staircase>) -> (u16, u16) {
-        match staircase {
-            Some(staircase) => (staircase.burst.get(), staircase.step.get()),
-            None => (0, 0),
-        }
+    fn stair(rt: &impl Abort, burst: u16, step: u16) -> Option<Staircase> {
+        Some(Staircase {
+            burst: Burst::new(burst).expect(rt, "a burst"),
+            step: Step::new(step).expect(rt, "a step"),
+        })
+    }
+
+    fn table(rt: &impl Abort, staircases: [Option<Staircase>; 4]) -> Table {
+        Table::new(staircases).expect(rt, "a staircase")
     }
 
     #[test]
@@ -99,114 +102,102 @@ mod tests {
     }
 
     #[test]
-    fn a_record_says_what_its_fields_say(rt: HostRuntime) -> Result<(), Fail> {
-        let Ok(setup) = read(&[0x2A, 4, 0x01, 0x02, 1, 0, 6, 0x03, 0x04]) else {
-            return Err(Fail::new("the record is taken"));
+    fn a_record_says_what_its_fields_say(rt: HostRuntime) {
+        let staircases = [None, stair(&rt, 4, 258), None, stair(&rt, 1, 6)];
+        let setup = Setup {
+            table: table(&rt, staircases),
+            capacity: None,
+            break_even: BreakEven::new(772),
         };
-        assert_eq!(rt; figures(setup.table.staircase(0)), (0, 0));
-        assert_eq!(rt; figures(setup.table.staircase(1)), (4, 258));
-        assert_eq!(rt; figures(setup.table.staircase(2)), (0, 0));
-        assert_eq!(rt; figures(setup.table.staircase(3)), (1, 6));
-        assert_eq!(rt; setup.capacity.get(), 256);
-        assert!(rt; !setup.stated.capacity);
-        assert_eq!(rt; setup.break_even.get(), 772);
-        assert!(rt; setup.stated.break_even);
-        Ok(())
+        assert_eq!(rt;
+            read(&[0x2A, 4, 0x01, 0x02, 1, 0, 6, 0x03, 0x04]),
+            Ok(setup)
+        );
+        assert_eq!(rt; setup.capacity().get(), 256);
+        assert_eq!(rt; setup.break_even().get(), 772);
     }
 
     #[test]
-    fn defaults_stand_for_what_is_left_out(rt: HostRuntime) -> Result<(), Fail> {
-        let Ok(setup) = read(&[0x11, 4, 0, 10, 1, 0]) else {
-            return Err(Fail::new("the record is taken"));
+    fn defaults_stand_for_what_is_left_out(rt: HostRuntime) {
+        let staircases = [stair(&rt, 4, 10), None, None, None];
+        let setup = Setup {
+            table: table(&rt, staircases),
+            capacity: Capacity::new(256),
+            break_even: None,
         };
-        assert_eq!(rt; setup.capacity.get(), 256);
-        assert!(rt; setup.stated.capacity);
-        assert_eq!(rt; setup.break_even.get(), 1);
-        assert!(rt; !setup.stated.break_even);
-        Ok(())
+        assert_eq!(rt; read(&[0x11, 4, 0, 10, 1, 0]), Ok(setup));
+        assert_eq!(rt; setup.capacity().get(), 256);
+        assert_eq!(rt; setup.break_even().get(), 1);
     }
 
     // The sheet is refused at this place.
-    fn refused(
-        rt: &impl Abort,
-        period: u32,
-        jitter: u32,
-        distance: u32,
-        place: u16,
-    ) -> Result<(), Fail> {
+    fn refused(rt: &impl Abort, period: u32, jitter: u32, distance: u32, place: u16) {
         let sheet = Sheet {
             period,
             jitter,
             distance,
         };
-        let Err(e) = sheet.setup() else {
-            return Err(Fail::new("the sheet is refused"));
+        let fault = Fault {
+            layer: Layer::Sheet,
+            number: 7,
+            place,
         };
-        let fault = Fault::from(e);
-        assert!(rt; fault.layer.letter() == "S");
-        assert_eq!(rt; (fault.number, fault.place), (7, place));
-        Ok(())
+        assert_eq!(rt; sheet.setup().map_err(|e| Fault::from(e)), Err(fault));
     }
 
-    // The sheet gives staircases 0 and 1 with these figures, and the defaults.
-    fn gives(
-        rt: &impl Abort,
-        sheet: Sheet,
-        first: (u16, u16),
-        second: (u16, u16),
-    ) -> Result<(), Fail> {
-        let Ok(setup) = sheet.setup() else {
-            return Err(Fail::new("the sheet is taken"));
+    // The sheet gives these staircases the numbers 0 and 1, and the defaults.
+    fn gives(rt: &impl Abort, sheet: Sheet, first: Option<Staircase>, second: Option<Staircase>) {
+        let setup = Setup {
+            table: table(rt, [first, second, None, None]),
+            capacity: None,
+            break_even: None,
         };
-        assert_eq!(rt; figures(setup.table.staircase(0)), first);
-        assert_eq!(rt; figures(setup.table.staircase(1)), second);
-        assert!(rt; setup.table.staircase(2).is_none());
-        assert!(rt; setup.table.staircase(3).is_none());
-        assert_eq!(rt; (setup.capacity.get(), setup.break_even.get()), (256, 1));
-        assert!(rt; !setup.stated.capacity);
-        assert!(rt; !setup.stated.break_even);
-        Ok(())
+        assert_eq!(rt; sheet.setup(), Ok(setup));
+        assert_eq!(rt;
+            (setup.capacity().get(), setup.break_even().get()),
+            (256, 1)
+        );
     }
 
     #[test]
-    fn sheets_are_refused_past_their_limits(rt: HostRuntime) -> Result<(), Fail> {
-        refused(&rt, 0, 0, 0, 0)?;
-        refused(&rt, 10_001, 0, 0, 0)?;
-        refused(&rt, 65_546, 0, 0, 0)?;
-        refused(&rt, 0, u32::MAX, u32::MAX, 0)?;
-        refused(&rt, 1, 255, 0, 1)?;
-        refused(&rt, 1, u32::MAX, 0, 1)?;
-        refused(&rt, 10_000, 2_550_000, 10_001, 1)?;
-        refused(&rt, 1, 0, 10_001, 2)?;
-        refused(&rt, 1, 0, 65_537, 2)?;
-        refused(&rt, 1, 254, u32::MAX, 2)
+    fn sheets_are_refused_past_their_limits(rt: HostRuntime) {
+        refused(&rt, 0, 0, 0, 0);
+        refused(&rt, 10_001, 0, 0, 0);
+        refused(&rt, 65_546, 0, 0, 0);
+        refused(&rt, 0, u32::MAX, u32::MAX, 0);
+        refused(&rt, 1, 255, 0, 1);
+        refused(&rt, 1, u32::MAX, 0, 1);
+        refused(&rt, 10_000, 2_550_000, 10_001, 1);
+        refused(&rt, 1, 0, 10_001, 2);
+        refused(&rt, 1, 0, 65_537, 2);
+        refused(&rt, 1, 254, u32::MAX, 2);
     }
 
     #[test]
-    fn sheets_give_staircases(rt: HostRuntime) -> Result<(), Fail> {
+    fn sheets_give_staircases(rt: HostRuntime) {
         let sheet = Sheet {
             period: 10,
             jitter: 20,
             distance: 3,
         };
-        gives(&rt, sheet, (3, 10), (1, 3))?;
+        gives(&rt, sheet, stair(&rt, 3, 10), stair(&rt, 1, 3));
         let sheet = Sheet {
             period: 10,
             jitter: 19,
             distance: 0,
         };
-        gives(&rt, sheet, (2, 10), (0, 0))?;
+        gives(&rt, sheet, stair(&rt, 2, 10), None);
         let sheet = Sheet {
             period: 1,
             jitter: 254,
             distance: 10_000,
         };
-        gives(&rt, sheet, (255, 1), (1, 10_000))?;
+        gives(&rt, sheet, stair(&rt, 255, 1), stair(&rt, 1, 10_000));
         let sheet = Sheet {
             period: 10_000,
             jitter: 2_549_999,
             distance: 1,
         };
-        gives(&rt, sheet, (255, 10_000), (1, 1))
+        gives(&rt, sheet, stair(&rt, 255, 10_000), stair(&rt, 1, 1));
     }
 }

@@ -1,11 +1,11 @@
 ghost use Rattle.std.specs.Prelude.{◌≡◌, Some};
-ghost use Rattle.staircase.specs.Tables.{counters_of, lowest_empty, arrived};
-ghost use Rattle.replay.specs.Replayed.{elapsed_by, left, judgement, answered, text};
+ghost use Rattle.staircase.specs.Tables.{counters_of};
+ghost use Rattle.replay.specs.Replayed.{elapsed_by, left, answered, text};
 
-use staircase::Counters;
+use staircase::{Broken, Counters};
 use std::fmt;
 
-#[derive(Clone, Copy)]
+#[derive(Clone, Copy, Debug, PartialEq, Eq)]
 pub(crate) enum Call {
     Ticks(u32),
     Sample,
@@ -13,10 +13,9 @@ pub(crate) enum Call {
 }
 
 // What a call is answered; ticks are not.
-#[derive(Clone, Copy)]
+#[derive(Clone, Copy, Debug, PartialEq, Eq)]
 pub(crate) enum Answer {
-    Accepted,
-    Refused(u8),
+    Sample(Result<(), Broken>),
     Bound(u64),
 }
 
@@ -25,13 +24,14 @@ impl fmt::Display for Answer {
 
     fn fmt<W: fmt::Write>(&self, f: &mut fmt::Formatter<W>) -> fmt::Result {
         match self {
-            Answer::Accepted => write!(f, "accepted"),
-            Answer::Refused(staircase) => write!(f, "refused {staircase}"),
+            Answer::Sample(Ok(())) => write!(f, "accepted"),
+            Answer::Sample(Err(Broken { staircase })) => write!(f, "refused {staircase}"),
             Answer::Bound(count) => write!(f, "bound {count}"),
         }
     }
 }
 
+// So many ticks. The loop repeats one call and uses no index: a chain would be no plainer.
 fn pass(counters: &mut Counters, ticks: u32)
     ensures { counters_of counters.new ≡ elapsed_by ticks (counters_of counters.old) }
 {
@@ -40,17 +40,7 @@ fn pass(counters: &mut Counters, ticks: u32)
     }
 }
 
-fn arrive(counters: &mut Counters) -> Answer
-    ensures value { result ≡ judgement (lowest_empty (counters_of counters.old)) }
-    ensures after { counters_of counters.new ≡ arrived (counters_of counters.old) }
-{
-    match counters.arrive() {
-        Ok(()) => Answer::Accepted,
-        Err(broken) => Answer::Refused(broken.staircase),
-    }
-}
-
-// Makes the call.
+// Makes the call. The kinds of call are read from input, a closed set: closures in place of the enum would be no plainer.
 pub(crate) fn made(counters: &mut Counters, call: Call) -> Option<Answer>
     ensures value { result ≡ answered call (counters_of counters.old) }
     ensures after { counters_of counters.new ≡ left call (counters_of counters.old) }
@@ -60,7 +50,7 @@ pub(crate) fn made(counters: &mut Counters, call: Call) -> Option<Answer>
             pass(counters, count);
             None
         }
-        Call::Sample => Some(arrive(counters)),
+        Call::Sample => Some(Answer::Sample(counters.arrive())),
         Call::Bound(horizon) => Some(Answer::Bound(counters.bound(horizon))),
     }
 }

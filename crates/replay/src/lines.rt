@@ -3,11 +3,11 @@ ghost use Rattle.std.specs.Option.{option_map};
 ghost use Rattle.replay.specs.Lines.{alone, counting, begun, beginning};
 
 use crate::calls::Call;
-use anyhow::anyhow;
+use anyhow::Context;
 use staircase::{Burst, Staircase, Step, Table};
 use std::alloc::Global;
 
-#[derive(Clone, Copy)]
+#[derive(Clone, Copy, Debug, PartialEq, Eq)]
 pub(crate) enum Line {
     Begin(Table),
     Make(Call),
@@ -24,32 +24,29 @@ fn staircase(burst: &str, step: &str) -> Option<Staircase> {
 fn call(name: &str, number: u32) -> Option<Line>
     ensures { result ≡ counting name.now number }
 {
-    if name == "ticks" {
-        return Some(Line::Make(Call::Ticks(number)));
+    match name {
+        "ticks" => Some(Line::Make(Call::Ticks(number))),
+        "bound" => Some(Line::Make(Call::Bound(number))),
+        _ => None,
     }
-    if name == "bound" {
-        return Some(Line::Make(Call::Bound(number)));
-    }
-    None
 }
 
 fn sample(name: &str) -> Option<Line>
     ensures { result ≡ alone name.now }
 {
-    if name == "sample" {
-        return Some(Line::Make(Call::Sample));
+    match name {
+        "sample" => Some(Line::Make(Call::Sample)),
+        _ => None,
     }
-    None
 }
 
 fn begin(name: &str, staircases: [Option<Staircase>; 4]) -> Option<Line>
     ensures { option_map begun result ≡ beginning name.now staircases }
 {
-    if name != "table" {
-        return None;
+    match name {
+        "table" => Table::new(staircases).map(Line::Begin),
+        _ => None,
     }
-    let table = Table::new(staircases)?;
-    Some(Line::Begin(table))
 }
 
 fn line_in(words: &[&str]) -> Option<Line> {
@@ -69,13 +66,11 @@ fn line_in(words: &[&str]) -> Option<Line> {
     }
 }
 
-// What a line asks for.
+// What a line asks for. It is no `FromStr`: that has no heap for the words, and words in an array of options read worse
+// than a slice of them.
 pub(crate) fn line_of(heap: Global, line: &str) -> anyhow::Result<Line> {
     let words: Vec<&str> = line.split_whitespace().collect(heap)?;
-    let Some(line) = line_in(words.as_slice()) else {
-        return Err(anyhow!("a line that is neither a table nor a call"));
-    };
-    Ok(line)
+    line_in(&words).context("a line that is neither a table nor a call")
 }
 
 #[cfg(test)]

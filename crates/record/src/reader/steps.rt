@@ -1,16 +1,16 @@
 ghost use Rattle.std.specs.Prelude.{◌≡◌, ◌+◌, ◌*◌, ◌^◌, ◌<◌, length, OnOk};
 ghost use Rattle.record.specs.Layout.{wide};
-ghost use Rattle.record.specs.Steps.{cursor_of, past, byte_read, pair_read, burst_read, figure_read, stair_read, field_read, figure_of, staircase_of, field_of};
+ghost use Rattle.record.specs.Steps.{cursor_of, past, byte_read, pair_read, judged, burst_read, figure_read, stair_read, field_read, figure_of, staircase_of, field_of};
 
 use super::Reader;
 use crate::faults::RecordFault;
 use staircase::{Burst, Limited, Staircase};
 
-// The high byte comes first.
-fn joined(high: u8, low: u8) -> u16
-    ensures { result ≡ high * 256 + low }
+// The figure that begins at that place, if the number there keeps the limits.
+fn judged<const MOST: u16>(place: u16, number: u16) -> Result<Limited<MOST>, RecordFault>
+    ensures { figure_of result ≡ judged MOST place number }
 {
-    high as u16 * 256 + low as u16
+    Limited::new(number).ok_or(RecordFault::Beyond(place))
 }
 
 impl<'a> Reader<'a> {
@@ -25,7 +25,7 @@ impl<'a> Reader<'a> {
         }
     }
 
-    // The next byte.
+    // The next byte. This and `pair` differ in how many bytes they take; a rule of the project wants slice patterns for both.
     fn byte(&mut self) -> Result<u8, RecordFault>
         ensures value { result ≡ byte_read (cursor_of self.old) }
         ensures moved { OnOk result (cursor_of self.new ≡ past 1 (cursor_of self.old)) }
@@ -48,7 +48,7 @@ impl<'a> Reader<'a> {
         };
         self.rest = rest;
         self.offset += 2;
-        Ok(joined(*high, *low))
+        Ok(u16::from_be_bytes([*high, *low]))
     }
 
     // The burst in the next byte.
@@ -58,10 +58,7 @@ impl<'a> Reader<'a> {
     {
         let place = self.offset;
         let byte = self.byte()?;
-        let Some(burst) = Burst::new(byte as u16) else {
-            return Err(RecordFault::Beyond(place));
-        };
-        Ok(burst)
+        judged(place, byte.into())
     }
 
     // The figure in the next two bytes.
@@ -71,10 +68,7 @@ impl<'a> Reader<'a> {
     {
         let place = self.offset;
         let pair = self.pair()?;
-        let Some(figure) = Limited::new(pair) else {
-            return Err(RecordFault::Beyond(place));
-        };
-        Ok(figure)
+        judged(place, pair)
     }
 
     // The staircase that comes next, if its bit stands.
@@ -85,9 +79,10 @@ impl<'a> Reader<'a> {
         if !there {
             return Ok(None);
         }
-        let burst = self.burst()?;
-        let step = self.figure()?;
-        Ok(Some(Staircase { burst, step }))
+        Ok(Some(Staircase {
+            burst: self.burst()?,
+            step: self.figure()?,
+        }))
     }
 
     // The figure that comes next, if its bit stands.
@@ -98,10 +93,12 @@ impl<'a> Reader<'a> {
         ensures value { field_of result ≡ field_read MOST there (cursor_of self.old) }
         ensures moved { OnOk result (cursor_of self.new ≡ past (wide there 2) (cursor_of self.old)) }
     {
-        if !there {
-            return Ok(None);
+        // tried by bool's `then`, and by one function for both kinds of field that takes the reading as a closure: a closure
+        // whose result has a const parameter gets no proof
+        if there {
+            self.figure().map(Some)
+        } else {
+            Ok(None)
         }
-        let figure = self.figure()?;
-        Ok(Some(figure))
     }
 }

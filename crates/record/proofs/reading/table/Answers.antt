@@ -1,11 +1,18 @@
-use Rattle.std.proofs.Common.{rules}
-use Rattle.record.proofs.Moves.{moved_on, moved_if}
+use Rattle.std.proofs.Common.{◌≡◌, Ok, Err, Result}
+use Rattle.std.specs.Result.{OnOk}
+use Rattle.record.specs.Layout.{table_width}
+use Rattle.record.specs.Steps.{cursor_of, past}
+use Rattle.record.proofs.Moves.{past_table}
 use Rattle.record.proofs.reading.table.Goals as goal
 
-pub returns : goal.returns
-returns c =
-    let m₀ = moved_if _ _ 3 _ _ c.has.ensures c.in_ok-staircase.ensures.moved in
-    let m₁ = moved_if _ _ 3 _ _ c.has-2.ensures c.in_ok-staircase-2.ensures.moved in
-    let m₂ = moved_if _ _ 3 _ _ c.has-3.ensures c.in_ok-staircase-3.ensures.moved in
-    let m₃ = moved_if _ _ 3 _ _ c.has-4.ensures c.in_ok-staircase-4.ensures.moved in
-    record { value = search rules; moved = moved_on _ _ _ _ _ (moved_on _ _ _ _ _ (moved_on _ _ _ _ _ m₀ m₁) m₂) m₃ }
+on_ok : {T E P : Type 0} (r : Result T E) → P → OnOk r P
+on_ok (Ok x) p = p
+on_ok (Err e) p = tt
+
+pub returns-clause-moved : goal.returns-clause-moved
+returns-clause-moved c =
+    let start = cursor_of c.args.reader.now in
+    let moved : cursor_of c.staircase-4.new.self ≡ past (table_width c.args.map.0) start =
+    cc (past_table c.args.map.0 start, c.in_ok-staircase.ensures.moved, c.in_ok-staircase-2.ensures.moved, c.in_ok-staircase-3.ensures.moved, c.in_ok-staircase-4.ensures.moved)
+    in
+    on_ok _ moved
