@@ -40,7 +40,7 @@ impl Fault {
         ensures value { result ≡ packed self }
         ensures apart { Apart self result }
     {
-        self.number as u32 * 65_536 + self.place as u32
+        u32::from(self.number) * 65_536 + u32::from(self.place)
     }
 }
 
@@ -64,6 +64,17 @@ impl fmt::Display for Fault {
 mod tests {
     use super::*;
     use std::test::Fail;
+
+    #[test]
+    fn letters(rt: HostRuntime) -> Result<(), Fail> {
+        assert!(rt; Layer::Record.letter() == "R");
+        assert!(rt; Layer::Sheet.letter() == "S");
+        let text = Layer::Record.to_string(rt.alloc())?;
+        assert!(rt; text.as_str() == "R");
+        let text = Layer::Sheet.to_string(rt.alloc())?;
+        assert!(rt; text.as_str() == "S");
+        Ok(())
+    }
 
     #[test]
     fn texts(rt: HostRuntime) -> Result<(), Fail> {

@@ -35,14 +35,14 @@ fn number(text: &str) -> Option<u32>
 fn sheet(flag: &str, period: &str, jitter: &str, distance: &str) -> Option<Request>
     ensures { result ≡ sheet_asked flag.now period.now jitter.now distance.now }
 {
-    if flag != "--sheet" {
-        return None;
+    match flag {
+        "--sheet" => Some(Request::Sheet(Sheet {
+            period: number(period)?,
+            jitter: number(jitter)?,
+            distance: number(distance)?,
+        })),
+        _ => None,
     }
-    Some(Request::Sheet(Sheet {
-        period: number(period)?,
-        jitter: number(jitter)?,
-        distance: number(distance)?,
-    }))
 }
 
 // What the arguments behind the program's name ask for, if it is anything.

@@ -18,8 +18,7 @@ use record::{Setup, Sheet, read};
 use reporting::Report;
 use std::{env, fs};
 
-// What a record says, or its fault. This and `sheet_says` are alike in their bodies alone: each has a promise of its own,
-// which one function for both could not state.
+// What a record says, or its fault. This and `sheet_says` are alike in their bodies alone: what they read and promise differs.
 fn record_says(bytes: &[u8]) -> Result<Setup, Fault>
     ensures { said result ≡ result_map_both (λ c. c) record_fault (reading bytes.now) }
 {

@@ -10,7 +10,7 @@ use staircase::{Staircase, Table};
 use std::fmt;
 
 // The line of a staircase with its number; a number without a staircase has none.
-#[derive(Clone, Copy)]
+#[derive(Clone, Copy, Debug, PartialEq, Eq)]
 struct StairLine {
     number: usize,
     staircase: Option<Staircase>,
@@ -20,6 +20,7 @@ impl fmt::Display for StairLine {
     ghost output = { λ l. Some (stair_line l.number (option_map stair_of l.staircase)) };
 
     fn fmt<W: fmt::Write>(&self, f: &mut fmt::Formatter<W>) -> fmt::Result {
+        // a `match` or `if let` would be no plainer: the line is the rest
         let Some(staircase) = self.staircase else {
             return Ok(());
         };
@@ -30,7 +31,7 @@ impl fmt::Display for StairLine {
 }
 
 // The lines of the staircases, in the order of their numbers.
-#[derive(Clone, Copy)]
+#[derive(Clone, Copy, Debug, PartialEq, Eq)]
 struct TableLines(Table);
 
 impl fmt::Display for TableLines {
@@ -46,7 +47,7 @@ impl fmt::Display for TableLines {
 
 // The line of a figure, which is marked if it was not given. The value is printed either way, so an `Option` in place of
 // value and flag would be no plainer: it would lose the default.
-#[derive(Clone, Copy)]
+#[derive(Clone, Copy, Debug, PartialEq, Eq)]
 struct FigureLine<'a> {
     name: &'a str,
     value: u16,
@@ -63,7 +64,7 @@ impl fmt::Display for FigureLine<'_> {
 }
 
 // The lines of the staircases, the capacity and the break-even.
-#[derive(Clone, Copy)]
+#[derive(Clone, Copy, Debug, PartialEq, Eq)]
 struct SetupLines(Setup);
 
 impl fmt::Display for SetupLines {
@@ -87,7 +88,7 @@ impl fmt::Display for SetupLines {
 }
 
 // All that is printed of what was found.
-#[derive(Clone, Copy)]
+#[derive(Clone, Copy, Debug, PartialEq, Eq)]
 pub(crate) struct Report(pub(crate) Result<Setup, Fault>);
 
 impl fmt::Display for Report {

@@ -162,24 +162,27 @@ not_below m n h = grind (arith, nat_tests)
 beyond_found : (bytes : List ℕ) (o : ℕ) → Condition bytes (Beyond o) → first_beyond 1 (placed (fields_in bytes)) ≡ Some o
 beyond_found bytes o (f, laid, first) = ap (λ (l : List ℕ). first_beyond 1 (placed (fields_in l))) (sym laid) ∙ ap (λ (g : Fields). first_beyond 1 (placed g)) (back f) ∙ said_first 1 (placed f) o first
 
+module _ (b : ℕ) (bs : List ℕ) (e : RecordFault) (h : First (b ∷ bs) e) where
+  bits_pass : 1 < order e → unknown b ≡ false
+  bits_pass l = not_unknown b (h.none_before UnknownBits l)
+
+  staircases_pass : 2 < order e → some_staircase b ≡ true
+  staircases_pass l = has_stairs b (h.none_before NoStaircase l)
+
 applies_first : (bytes : List ℕ) (e : RecordFault) → First bytes e → reading bytes ≡ Err e
 applies_first [] Empty h = refl
-applies_first [] UnknownBits h = absurd (h.none_before Empty (omega arith) refl)
-applies_first [] NoStaircase h = absurd (h.none_before Empty (omega arith) refl)
-applies_first [] (Short n) h = absurd (h.none_before Empty (omega arith) refl)
-applies_first [] (Long n) h = absurd (h.none_before Empty (omega arith) refl)
-applies_first [] (Beyond o) h = absurd (h.none_before Empty (omega arith) refl)
+applies_first [] _ h = absurd (h.none_before Empty (omega arith) refl)
 applies_first (b ∷ bs) Empty h = absurd (not_empty b bs h.applies)
 applies_first (b ∷ bs) UnknownBits h = at_unknown b bs (not_known _ _ h.applies)
-applies_first (b ∷ bs) NoStaircase h = at_none b bs (not_unknown b (h.none_before UnknownBits (omega arith))) (stairs_no b h.applies)
+applies_first (b ∷ bs) NoStaircase h = at_none b bs (bits_pass b bs _ h (omega arith)) (stairs_no b h.applies)
 applies_first (b ∷ bs) (Short n) h =
-    at_short b bs (not_unknown b (h.none_before UnknownBits (omega arith))) (has_stairs b (h.none_before NoStaircase (omega arith))) (lt-ltb _ _ h.applies.0)
+    at_short b bs (bits_pass b bs _ h (omega arith)) (staircases_pass b bs _ h (omega arith)) (lt-ltb _ _ h.applies.0)
     ∙ ap (λ (k : ℕ). Err (Short k)) (sym h.applies.1)
 applies_first (b ∷ bs) (Long n) h =
-    at_long b bs (not_unknown b (h.none_before UnknownBits (omega arith))) (has_stairs b (h.none_before NoStaircase (omega arith))) (le-ltb _ _ (omega (arith, h.applies.0))) (lt-ltb _ _ h.applies.0)
+    at_long b bs (bits_pass b bs _ h (omega arith)) (staircases_pass b bs _ h (omega arith)) (le-ltb _ _ (omega (arith, h.applies.0))) (lt-ltb _ _ h.applies.0)
     ∙ ap (λ (k : ℕ). Err (Long k)) (sym h.applies.1)
 applies_first (b ∷ bs) (Beyond o) h =
-    at_fields b bs (not_unknown b (h.none_before UnknownBits (omega arith))) (has_stairs b (h.none_before NoStaircase (omega arith)))
+    at_fields b bs (bits_pass b bs _ h (omega arith)) (staircases_pass b bs _ h (omega arith))
     (not_below _ _ (λ l. h.none_before (Short (size b bs)) (omega arith) (l, refl)))
     (not_below _ _ (λ l. h.none_before (Long (called_for b)) (omega arith) (l, refl)))
     ∙ ap (λ (q : Option ℕ). unless q (meaning (fields_after b bs))) (beyond_found (b ∷ bs) o h.applies)

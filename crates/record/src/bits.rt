@@ -9,8 +9,8 @@ use crate::faults::RecordFault;
 pub(crate) struct BitMap(pub(crate) u8);
 
 impl BitMap {
-    // Whether that bit stands. Bits go by their numbers in the record's format: an enum of fields would be no plainer, since
-    // two of the bits stand for none.
+    // Whether that bit stands. Bits go by their numbers in the record's format, and so do the ranges over them below: an enum of
+    // fields would be no plainer.
     pub(crate) fn has(self, bit: u8) -> bool
         requires { bit < 8 }
         ensures { result ≡ stands self.0 bit }
@@ -67,10 +67,10 @@ impl BitMap {
             return Err(RecordFault::NoStaircase);
         }
         let called_for = self.called_for();
-        if length < called_for as usize {
-            return Err(RecordFault::Short(length as u16));
+        if length < usize::from(called_for) {
+            return Err(RecordFault::Short(u16::try_from(length).unwrap()));
         }
-        if length > called_for as usize {
+        if length > usize::from(called_for) {
             return Err(RecordFault::Long(called_for));
         }
         Ok(())

@@ -130,6 +130,19 @@ mod tests {
         assert_eq!(rt; setup.break_even().get(), 1);
     }
 
+    #[test]
+    fn given_figures_stand(rt: HostRuntime) {
+        let staircases = [stair(&rt, 4, 10), None, None, None];
+        let setup = Setup {
+            table: table(&rt, staircases),
+            capacity: Capacity::new(4),
+            break_even: BreakEven::new(2),
+        };
+        assert_eq!(rt; read(&[0x31, 4, 0, 10, 0, 4, 0, 2]), Ok(setup));
+        assert_eq!(rt; setup.capacity().get(), 4);
+        assert_eq!(rt; setup.break_even().get(), 2);
+    }
+
     // The sheet is refused at this place.
     fn refused(rt: &impl Abort, period: u32, jitter: u32, distance: u32, place: u16) {
         let sheet = Sheet {
@@ -143,6 +156,7 @@ mod tests {
             place,
         };
         assert_eq!(rt; sheet.setup().map_err(|e| Fault::from(e)), Err(fault));
+        assert!(rt; fault.layer.letter() == "S");
     }
 
     // The sheet gives these staircases the numbers 0 and 1, and the defaults.

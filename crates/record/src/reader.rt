@@ -2,7 +2,8 @@ ghost use Rattle.std.specs.Prelude.{◌+◌, ◌^◌, ◌<◌, length};
 
 mod steps;
 
-// What is left of a record in its caller's memory, and the offset at which that begins.
+// What is left of a record in its caller's memory, and the offset at which that begins: a rule of the project wants the two
+// in one struct.
 #[derive(Drop)]
 pub(crate) struct Reader<'a> {
     rest: &'a [u8],

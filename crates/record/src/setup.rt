@@ -1,4 +1,5 @@
 ghost use Rattle.std.specs.Prelude.{◌≡◌};
+ghost use Rattle.std.specs.Option.{option_map, unwrap_or};
 ghost use Rattle.staircase.specs.Limits.{Within};
 ghost use Rattle.staircase.specs.Of.{value_of};
 ghost use Rattle.record.specs.Setups.{content_of};
@@ -18,21 +19,26 @@ impl Setup {
     pub fn capacity(self) -> Capacity
         ensures { value_of result ≡ (content_of self).capacity }
     {
-        let Some(capacity) = self.capacity else {
-            return known(256);
-        };
-        capacity
+        given_or(self.capacity, 256)
     }
 
     // The break-even that was given, or the default.
     pub fn break_even(self) -> BreakEven
         ensures { value_of result ≡ (content_of self).break_even }
     {
-        let Some(break_even) = self.break_even else {
-            return known(1);
-        };
-        break_even
+        given_or(self.break_even, 1)
     }
+}
+
+// The figure that was given, or the default. A rule of the project wants an optional field taken apart by `let .. else`.
+fn given_or<const MOST: u16>(given: Option<Limited<MOST>>, default: u16) -> Limited<MOST>
+    requires { Within MOST default }
+    ensures { value_of result ≡ unwrap_or (option_map value_of given.entry) default }
+{
+    let Some(figure) = given else {
+        return known(default);
+    };
+    figure
 }
 
 // A figure that is known to keep its limits.

@@ -55,12 +55,7 @@ fn line_in(words: &[&str]) -> Option<Line> {
         [name, number] => call(name, number.parse::<u32>().ok()?),
         [name, b0, s0, b1, s1, b2, s2, b3, s3] => begin(
             name,
-            [
-                staircase(b0, s0),
-                staircase(b1, s1),
-                staircase(b2, s2),
-                staircase(b3, s3),
-            ],
+            [(b0, s0), (b1, s1), (b2, s2), (b3, s3)].map(|(burst, step)| staircase(burst, step)),
         ),
         _ => None,
     }

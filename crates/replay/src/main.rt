@@ -17,6 +17,7 @@ use std::io::{BufRead, BufReader};
 fn run(rt: &HostRuntime) -> anyhow::Result<()> {
     let heap = rt.alloc();
     let mut lines = BufReader::new(heap, rt.stdin())?.lines(heap);
+    // a `match` or `if let` would be no plainer: without input there is nothing more to do
     let Some(first) = lines.next() else {
         return Ok(());
     };

@@ -81,45 +81,58 @@ module _ {A : Type 0} (f : A → ℕ) where
   abbrev those : List (Option A) → List ℕ
   those os = filter_map (option_map f) os
 
+  -- none of them gives less than n
+  abbrev Below : List (Option A) → ℕ → Type 0
+  Below os n = (i : ℕ) (x : A) → get_or os i None ≡ Some x → n ≤ f x
+
+  below_none : (os : List (Option A)) (n : ℕ) → Below os n → Below (None ∷ os) n
+  below_none os n b zero x e = absurd (none-some x e)
+  below_none os n b (suc i) x e = b i x e
+
+  below_some : (y : A) (os : List (Option A)) (n : ℕ) → n ≤ f y → Below os n → Below (Some y ∷ os) n
+  below_some y os n h b zero x e = let same : y ≡ x = cc in omega (arith, h, ap f same)
+  below_some y os n h b (suc i) x e = b i x e
+
   -- one of them gives n, and none gives less
   pub record Least (os : List (Option A)) (n : ℕ) : Type 0 where
     pub number : ℕ
     pub one : A
     pub there : get_or os number None ≡ Some one
     pub gives : f one ≡ n
-    pub below : (i : ℕ) (x : A) → get_or os i None ≡ Some x → n ≤ f x
+    pub below : Below os n
 
-  -- n, or what one of them gives, and none of these is less
+  behind : (o : Option A) (os : List (Option A)) (n : ℕ) → Below (o ∷ os) n → Least os n → Least (o ∷ os) n
+  behind o os n b l = record { number = suc l.number; one = l.one; there = l.there; gives = l.gives; below = b }
+
+  -- n, or the least of them if that is less
   record Folded (n : ℕ) (os : List (Option A)) (m : ℕ) : Type 0 where
-    given : (m ≡ n) ⊎ ((i : ℕ) × (x : A) × (get_or os i None ≡ Some x) × (f x ≡ m))
+    given : (m ≡ n) ⊎ Least os m
     under : m ≤ n
-    below : (i : ℕ) (x : A) → get_or os i None ≡ Some x → m ≤ f x
+    below : Below os m
 
   past_none : (n m : ℕ) (os : List (Option A)) → Folded n os m → Folded n (None ∷ os) m
   past_none n m os r = record { given = given r.given; under = r.under; below = below }
     where
-      given : (m ≡ n) ⊎ ((i : ℕ) × (x : A) × (get_or os i None ≡ Some x) × (f x ≡ m)) → (m ≡ n) ⊎ ((i : ℕ) × (x : A) × (get_or (None ∷ os) i None ≡ Some x) × (f x ≡ m))
-      given (inl e) = inl e
-      given (inr p) = inr (suc p.0, p.1, p.2, p.3)
+      below : Below (None ∷ os) m
+      below = below_none os m r.below
 
-      below : (i : ℕ) (x : A) → get_or (None ∷ os) i None ≡ Some x → m ≤ f x
-      below zero x e = absurd (none-some x e)
-      below (suc i) x e = r.below i x e
+      given : (m ≡ n) ⊎ Least os m → (m ≡ n) ⊎ Least (None ∷ os) m
+      given (inl e) = inl e
+      given (inr l) = inr (behind None os m below l)
 
   past_some : (n m : ℕ) (y : A) (os : List (Option A)) → Folded (min n (f y)) os m → Folded n (Some y ∷ os) m
   past_some n m y os r = record { given = given r.given; under = omega (arith, r.under); below = below }
     where
-      lesser : m ≡ min n (f y) → (n < f y) ⊎ (f y ≤ n) → (m ≡ n) ⊎ ((i : ℕ) × (x : A) × (get_or (Some y ∷ os) i None ≡ Some x) × (f x ≡ m))
+      below : Below (Some y ∷ os) m
+      below = below_some y os m (omega (arith, r.under)) r.below
+
+      lesser : m ≡ min n (f y) → (n < f y) ⊎ (f y ≤ n) → (m ≡ n) ⊎ Least (Some y ∷ os) m
       lesser e (inl h) = inl (omega arith)
-      lesser e (inr h) = inr (0, y, refl, omega arith)
+      lesser e (inr h) = inr (record { number = 0; one = y; there = refl; gives = omega arith; below = below })
 
-      given : (m ≡ min n (f y)) ⊎ ((i : ℕ) × (x : A) × (get_or os i None ≡ Some x) × (f x ≡ m)) → (m ≡ n) ⊎ ((i : ℕ) × (x : A) × (get_or (Some y ∷ os) i None ≡ Some x) × (f x ≡ m))
+      given : (m ≡ min n (f y)) ⊎ Least os m → (m ≡ n) ⊎ Least (Some y ∷ os) m
       given (inl e) = lesser e (cases_lt n (f y))
-      given (inr p) = inr (suc p.0, p.1, p.2, p.3)
-
-      below : (i : ℕ) (x : A) → get_or (Some y ∷ os) i None ≡ Some x → m ≤ f x
-      below zero x e = let same : y ≡ x = cc in omega (arith, r.under, ap f same)
-      below (suc i) x e = r.below i x e
+      given (inr l) = inr (behind (Some y) os m below l)
 
   folded : (n : ℕ) (os : List (Option A)) → Folded n os (fold min n (those os))
   folded n [] = record { given = inl refl; under = omega arith; below = λ i x e. absurd (none-some x e) }
@@ -129,23 +142,18 @@ module _ {A : Type 0} (f : A → ℕ) where
   -- what the answer says of them
   pub told : (os : List (Option A)) (n : ℕ) → reduce min (those os) ≡ Some n → Least os n
   told [] n e = absurd (none-some n e)
-  told (None ∷ os) n e = let l = told os n e in record { number = suc l.number; one = l.one; there = l.there; gives = l.gives; below = below os n l }
-    where
-      below : (os : List (Option A)) (n : ℕ) → Least os n → (i : ℕ) (x : A) → get_or (None ∷ os) i None ≡ Some x → n ≤ f x
-      below os n l zero x e = absurd (none-some x e)
-      below os n l (suc i) x e = l.below i x e
+  told (None ∷ os) n e = let l = told os n e in behind None os n (below_none os n l.below) l
   told (Some y ∷ os) n e = let same : fold min (f y) (those os) ≡ n = cc in subst (Least (Some y ∷ os)) same (first (fold min (f y) (those os)) (folded (f y) os))
     where
       first : (m : ℕ) → Folded (f y) os m → Least (Some y ∷ os) m
       first m r = pick r.given
         where
-          below : (i : ℕ) (x : A) → get_or (Some y ∷ os) i None ≡ Some x → m ≤ f x
-          below zero x e = let same : y ≡ x = cc in omega (arith, r.under, ap f same)
-          below (suc i) x e = r.below i x e
+          below : Below (Some y ∷ os) m
+          below = below_some y os m r.under r.below
 
-          pick : (m ≡ f y) ⊎ ((i : ℕ) × (x : A) × (get_or os i None ≡ Some x) × (f x ≡ m)) → Least (Some y ∷ os) m
+          pick : (m ≡ f y) ⊎ Least os m → Least (Some y ∷ os) m
           pick (inl e) = record { number = 0; one = y; there = refl; gives = sym e; below = below }
-          pick (inr p) = record { number = suc p.0; one = p.1; there = p.2; gives = p.3; below = below }
+          pick (inr l) = behind (Some y) os m below l
 
   -- where there is one, there is a least
   pub least_there : (os : List (Option A)) (i : ℕ) (x : A) → get_or os i None ≡ Some x → (n : ℕ) × (reduce min (those os) ≡ Some n)

@@ -6,7 +6,7 @@ use crate::Staircase;
 
 // A staircase's counter. It has a token for each sample that may come at once, and a timer for the next token. It is plain
 // by a rule of the project: `Proper` is an invariant of the table around all counters, and here a `requires`.
-#[derive(Clone, Copy)]
+#[derive(Clone, Copy, Debug, PartialEq, Eq)]
 pub(crate) struct Counter {
     burst: u16,
     step: u16,
@@ -68,7 +68,7 @@ impl Counter {
         if missing == 0 {
             return 0;
         }
-        missing as u32 * self.step as u32 - (self.step - self.timer) as u32
+        u32::from(missing) * u32::from(self.step) - u32::from(self.step - self.timer)
     }
 
     // The most samples that it lets come in the present tick and so many more.
@@ -76,7 +76,7 @@ impl Counter {
         requires { Proper self.now }
         ensures { result ≡ bound self.now horizon }
     {
-        let full = self.burst as u32 * self.step as u32;
-        ((full - self.until_full()) as u64 + horizon as u64) / self.step as u64
+        let full = u32::from(self.burst) * u32::from(self.step);
+        (u64::from(full - self.until_full()) + u64::from(horizon)) / u64::from(self.step)
     }
 }

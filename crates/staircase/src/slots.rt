@@ -10,6 +10,7 @@ use crate::counter::Counter;
 
 // A place for each number that a staircase can have, with its counter where there is a staircase. It is plain, as the
 // counters are by a rule of the project: the table around it has `Sound` as its invariant, and here each contract states it.
+// An array, since there is no heap on the card.
 #[derive(Drop)]
 pub(crate) struct Slots {
     counters: [Option<Counter>; 4],
@@ -34,7 +35,7 @@ impl Slots {
         ensures after { self.new.counters ≡ all_elapsed self.old.counters }
         ensures sound { Sound self.new.counters }
     {
-        // `flatten` would lend the counters too: tried, and the proof did not close, since nothing says what it leaves in the array
+        // tried by `iter_mut().flatten()`: no lemma ties what it yields to the array, and the proof did not close
         for place in self.counters.iter_mut() {
             if let Some(counter) = place {
                 counter.tick();
@@ -48,7 +49,7 @@ impl Slots {
         ensures after { self.new.counters ≡ all_charged self.old.counters }
         ensures sound { Sound self.new.counters }
     {
-        // without `flatten`, as in `tick`
+        // tried by `iter_mut().flatten()`, as in `tick`
         for place in self.counters.iter_mut() {
             if let Some(counter) = place {
                 counter.charge();
@@ -64,7 +65,7 @@ impl Slots {
         self.counters
             .iter()
             .position(|counter| counter.is_some_and(|counter| counter.is_empty()))
-            .map(|number| number as u8)
+            .map(|number| u8::try_from(number).unwrap())
     }
 
     // The least bound of the counters, if there is one.

@@ -12,7 +12,8 @@ pub struct Staircase {
     pub step: Step,
 }
 
-// Up to four staircases, and one at least. Each has its number from 0 to 3, and numbers may be missing.
+// Up to four staircases, and one at least. Each has its number from 0 to 3, and numbers may be missing. They stand in an array,
+// since there is no heap on the card.
 #[derive(Clone, Copy, Debug, PartialEq, Eq)]
 pub struct Table {
     pub(crate) staircases: [Option<Staircase>; 4],

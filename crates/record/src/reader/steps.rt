@@ -44,7 +44,7 @@ impl<'a> Reader<'a> {
         ensures moved { OnOk result (cursor_of self.new ≡ past 2 (cursor_of self.old)) }
     {
         let [high, low, rest @ ..] = self.rest else {
-            return Err(RecordFault::Short(self.offset + self.rest.len() as u16));
+            return Err(RecordFault::Short(self.offset + u16::try_from(self.rest.len()).unwrap()));
         };
         self.rest = rest;
         self.offset += 2;
