@@ -1,11 +1,11 @@
--- What makes four counters a table's stands through every change of each.
-use Rattle.std.proofs.Common.{◌≡◌, true, List, map, length, get_or, Some, None, IfSome, Option, sym, ◌∙◌, subst, arith}
+-- Changed counters are still a table's, and new ones keep the promise over runs.
+use Rattle.std.proofs.Common.{◌≡◌, true, List, map, Some, None, IfSome, Option, sym, ◌∙◌, subst}
 use Rattle.std.proofs.lemmas.List.{length-map}
 use Rattle.std.proofs.lemmas.List.Elements.{All-map, All-weaker}
 use Rattle.std.specs.Option.{option_map}
 use Rattle.staircase.specs.Limits.{any_there}
 use Rattle.staircase.specs.Of.{Stair, stair_of}
-use Rattle.staircase.specs.Counting.{Proper, Sound, full}
+use Rattle.staircase.specs.Counting.{Proper, Sound}
 use Rattle.staircase.specs.Tables.{fresh}
 use Rattle.staircase.specs.Promise.{Promise}
 use Rattle.staircase.specs.declared.counter.Counter.{Counter}
@@ -36,20 +36,6 @@ module _ (ss : List (Option Staircase)) where
   lawful i s e =
       let x = from_map stair_of ss i s e in
       subst Figures x.2 (x.0.burst.limits, x.0.step.limits)
-
-  full_proper : (o : Option Staircase) → IfSome (option_map full (option_map stair_of o)) Proper
-  full_proper None = tt
-  full_proper (Some s) = (s.burst.limits, s.step.limits, omega arith, (s.step.limits.0, omega arith))
-
-  pub fresh_four : length ss ≡ 4 → length (fresh stairs) ≡ 4
-  fresh_four four = length-map stairs (option_map full) ∙ length-map ss (option_map stair_of) ∙ four
-
-  pub fresh_sound : length ss ≡ 4 → any_there ss ≡ true → Sound (fresh stairs)
-  fresh_sound four some = record {
-    counters = fresh_four four;
-    some = any_mapped full stairs ∙ any_mapped stair_of ss ∙ some;
-    limits = All-map (λ o. IfSome o Proper) (option_map full) stairs (All-map (λ o. IfSome (option_map full o) Proper) (option_map stair_of) ss (λ place d h. full_proper (get_or ss place d)));
-  }
 
   pub fresh_promised : (start : List (Option Counter)) → start ≡ fresh stairs → any_there ss ≡ true → Promise stairs start
   fresh_promised start is some = subst (Promise stairs) (sym is) (promised stairs lawful (any_mapped stair_of ss ∙ some))
