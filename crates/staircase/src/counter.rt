@@ -35,8 +35,9 @@ impl Counter {
         requires { Proper self.old }
         ensures { self.new ≡ elapsed self.old }
     {
-        if self.timer > 1 {
-            self.timer -= 1;
+        let left = self.timer - 1;
+        if left > 0 {
+            self.timer = left;
         } else {
             self.tokens = self.burst.min(self.tokens + 1);
             self.timer = self.step;

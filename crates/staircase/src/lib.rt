@@ -55,8 +55,8 @@ mod tests {
         assert_eq!(rt; table.staircase(4), None);
     }
 
-    fn counters(rt: &impl Abort, staircases: [Option<Staircase>; 4]) -> Counters {
-        Counters::new(Table::new(staircases).expect(rt, "there is a staircase"))
+    fn counters(staircases: [Option<Staircase>; 4]) -> Option<Counters> {
+        Table::new(staircases).map(Counters::new)
     }
 
     fn pass(counters: &mut Counters, ticks: u32) {
@@ -75,7 +75,7 @@ mod tests {
 
     #[test]
     fn one_sample_in_five_ticks(rt: HostRuntime) {
-        let mut counters = counters(&rt, [stair(1, 5), None, None, None]);
+        let mut counters = counters([stair(1, 5), None, None, None]).expect(&rt, "a table");
         accepted(&rt, &mut counters);
         refused(&rt, &mut counters, 0);
         pass(&mut counters, 4);
@@ -86,7 +86,7 @@ mod tests {
 
     #[test]
     fn a_timer_restarts_at_a_full_counter(rt: HostRuntime) {
-        let mut counters = counters(&rt, [stair(2, 10), None, None, None]);
+        let mut counters = counters([stair(2, 10), None, None, None]).expect(&rt, "a table");
         accepted(&rt, &mut counters);
         pass(&mut counters, 15);
         accepted(&rt, &mut counters);
@@ -99,7 +99,8 @@ mod tests {
 
     #[test]
     fn the_lowest_broken_staircase_is_named(rt: HostRuntime) {
-        let mut counters = counters(&rt, [None, stair(2, 4), stair(1, 2), stair(2, 10_000)]);
+        let staircases = [None, stair(2, 4), stair(1, 2), stair(2, 10_000)];
+        let mut counters = counters(staircases).expect(&rt, "a table");
         accepted(&rt, &mut counters);
         refused(&rt, &mut counters, 2);
         pass(&mut counters, 2);
@@ -111,7 +112,7 @@ mod tests {
 
     #[test]
     fn bounds(rt: HostRuntime) {
-        let mut counters = counters(&rt, [stair(4, 10), stair(1, 6), None, None]);
+        let mut counters = counters([stair(4, 10), stair(1, 6), None, None]).expect(&rt, "a table");
         assert_eq!(rt; counters.bound(0), 1);
         assert_eq!(rt; counters.bound(41), 7);
         assert_eq!(rt; counters.bound(42), 8);
@@ -125,7 +126,7 @@ mod tests {
 
     #[test]
     fn bounds_at_the_limits(rt: HostRuntime) {
-        let mut counters = counters(&rt, [None, None, None, stair(255, 1)]);
+        let mut counters = counters([None, None, None, stair(255, 1)]).expect(&rt, "a table");
         assert_eq!(rt; counters.bound(0), 255);
         assert_eq!(rt; counters.bound(u32::MAX), 4_294_967_550);
         for _ in 0..255 {

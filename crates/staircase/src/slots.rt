@@ -35,12 +35,15 @@ impl Slots {
         ensures after { self.new.counters ≡ all_elapsed self.old.counters }
         ensures sound { Sound self.new.counters }
     {
+        // on a copy that is put back: ticked where they stand, the counters of a full table take twice the time
+        let mut counters = self.counters;
         // tried by `iter_mut().flatten()`: no lemma ties what it yields to the array, and the proof did not close
-        for place in self.counters.iter_mut() {
+        for place in counters.iter_mut() {
             if let Some(counter) = place {
                 counter.tick();
             }
         }
+        self.counters = counters;
     }
 
     // A sample takes a token from each counter.
@@ -64,7 +67,7 @@ impl Slots {
     {
         self.counters
             .iter()
-            .position(|counter| counter.is_some_and(|counter| counter.is_empty()))
+            .position(|place| place.as_ref().is_some_and(|counter| counter.is_empty()))
             .map(|number| u8::try_from(number).unwrap())
     }
 
@@ -75,7 +78,7 @@ impl Slots {
     {
         self.counters
             .iter()
-            .filter_map(|place| place.map(|counter| counter.bound(horizon)))
+            .filter_map(|place| place.as_ref().map(|counter| counter.bound(horizon)))
             .min()
     }
 
