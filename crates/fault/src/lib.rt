@@ -7,7 +7,7 @@ ghost use Rattle.fault.specs.Packed.{packed, Apart};
 use std::fmt;
 
 // The part of the card that turns an input away.
-#[derive(Clone, Copy, Debug, PartialEq, Eq)]
+#[derive(Clone, Copy, PartialEq, Eq)]
 pub enum Layer {
     Record,
     Sheet,
@@ -27,7 +27,7 @@ impl Layer {
 
 // What a refused input is told: the layer that refuses, the number of the refusal, and the place in the input. Refusals are
 // enums of their layers; here they are numbers because the line of text and the answer to callers in C have numbers.
-#[derive(Clone, Copy, Debug, PartialEq, Eq)]
+#[derive(Clone, Copy, PartialEq, Eq)]
 pub struct Fault {
     pub layer: Layer,
     pub number: u8,

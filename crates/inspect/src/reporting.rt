@@ -88,7 +88,7 @@ impl fmt::Display for SetupLines {
 }
 
 // All that is printed of what was found.
-#[derive(Clone, Copy, Debug, PartialEq, Eq)]
+#[derive(Clone, Copy, PartialEq, Eq)]
 pub(crate) struct Report(pub(crate) Result<Setup, Fault>);
 
 impl fmt::Display for Report {

@@ -155,7 +155,7 @@ mod tests {
             number: 7,
             place,
         };
-        assert_eq!(rt; sheet.setup().map_err(|e| Fault::from(e)), Err(fault));
+        assert!(rt; sheet.setup().map_err(|e| Fault::from(e)) == Err(fault));
         assert!(rt; fault.layer.letter() == "S");
     }
 
